@@ -1,0 +1,17 @@
+-- `store_at`: the test selects the case of `storeOf`. Assumes nothing.
+use borrow.Author.Tests.{lt-ltb, le-ltb}
+use Rattle.memory.specs.Page.{storeOf}
+use borrow.Author.Needs.{needs}
+use Rattle.memory.proofs.page.store_at.Statement.{statement}
+use Rattle.memory.proofs.page.store_at.Tie as tie
+
+returns : tie.Need-returns
+unfolding storeOf
+returns c = rw (lt-ltb _ _ (c .if1 .taken))
+
+returns-2 : tie.Need-returns-2
+unfolding storeOf
+returns-2 c = rw (le-ltb _ _ (c .before .if1 .left)) (c .store-table .ensures)
+
+pub store-at-spec : {M : Type 1} → statement M
+store-at-spec = tie.close (tie.spec (λ c. search needs) (λ c. search needs) returns (λ c κs. search needs) returns-2)
