@@ -4,7 +4,7 @@ use mathlib.Core.Path.{_≡_, refl, sym, subst, _∙_}
 use mathlib.Core.Bool.{Bool, true, false, cond, _&&_, _||_}
 use Prim.Native.Nat.{ℕ, _≤_, _<_}
 use borrow.Author.Tests.{le-leb, lt-leb, leb-true}
-use lib.Dec.{leb}
+use lib.Dec.{T, leb}
 use Rattle.memory.specs.Bytes.{within}
 
 pub and-true : (p q : Bool) → (p && q) ≡ true → (p ≡ true) × (q ≡ true)
@@ -38,3 +38,15 @@ pub range-true : (lo hi a : ℕ) → within lo hi a ≡ true → (lo ≤ a) × (
 range-true lo hi a e =
     let h = and-true (leb lo a) (leb a hi) e in
     (leb-true lo a (h .0), leb-true a hi (h .1))
+
+-- two tests that compute to the same
+abbrev pub same : Bool → Bool → Bool
+same true b = b
+same false true = false
+same false false = true
+
+pub same→eq : (a b : Bool) → T (same a b) → a ≡ b
+same→eq true true t = refl
+same→eq true false t = absurd t
+same→eq false true t = absurd t
+same→eq false false t = refl

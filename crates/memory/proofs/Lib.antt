@@ -10,3 +10,4 @@ pub mod Whole
 pub mod Public
 pub mod Stored
 pub mod Cycle
+pub mod Back

@@ -2,12 +2,12 @@
 -- Assumes nothing.
 use mathlib.Core.Path.{_≡_, refl, sym, _∙_}
 use mathlib.Core.List.{List, [], _∷_, _++_}
-use Prim.Native.Nat.{ℕ, zero, suc, _+_, _<_}
+use Prim.Native.Nat.{ℕ, zero, suc, _+_, _<_, _≤_}
 use native.Mathlib.Nat.{zero-add, add-zero, add-suc, suc-add}
 use native.Mathlib.Numerals.{add-one}
 use native.Mathlib.Omega.{arith}
-use lib.ListN.{length, getD, set, take, drop, replicate, length-take}
-use lib.Seq.{sets, paste-suc, getD-set-other, getD-take, ext-getD}
+use lib.ListN.{length, getD, set, take, drop, replicate, length-take, length-set}
+use lib.Seq.{sets, paste-suc, getD-set-same, getD-set-other, getD-take, ext-getD}
 
 -- a turn of a loop that copies s to the front of d
 pub copy-turn : (d s : List ℕ) (j : ℕ) → j < length d → j < length s
@@ -27,6 +27,14 @@ getD-sets-other [] l i j h = refl
 getD-sets-other (v ∷ vs) l i j h =
     getD-sets-other vs (set l i v) (suc i) j (λ k g e. h (suc k) (omega arith) (omega arith))
     ∙ getD-set-other l i j v 0 (λ e. h 0 (omega arith) (omega arith))
+
+-- and puts its values in their places
+pub getD-sets-same : (vs l : List ℕ) (i k : ℕ) → k < length vs → i + length vs ≤ length l → getD (sets l i vs) (i + k) 0 ≡ getD vs k 0
+getD-sets-same [] l i k h g = absurd (omega arith)
+getD-sets-same (v ∷ vs) l i zero h g =
+    rw (add-zero i) (getD-sets-other vs (set l i v) (suc i) i (λ k q e. omega arith) ∙ getD-set-same l i v 0 (omega arith))
+getD-sets-same (v ∷ vs) l i (suc k) h g =
+    rw (add-suc i k, ← suc-add i k) (getD-sets-same vs (set l i v) (suc i) k (omega arith) (rw (length-set l i v) (omega arith)))
 
 -- two lists of one length that agree at each of the first n places have the same first n elements
 pub same-front : (n : ℕ) (x y : List ℕ) → length x ≡ length y → ((i : ℕ) → i < n → getD x i 0 ≡ getD y i 0) → take n x ≡ take n y

@@ -15,7 +15,7 @@ use Rattle.memory.specs.declared.Table.{Table}
 use Rattle.memory.specs.declared.Table.the-variants.{First, Second, Third, Absent}
 use Rattle.memory.specs.declared.Class.{Class}
 use Rattle.memory.specs.declared.Class.the-variants.{Eeprom, Status, Hidden, Free, Flags, FastFlags, Entry, Upper}
-use Rattle.memory.proofs.Bools.{above-range}
+use Rattle.memory.proofs.Bools.{same, same→eq, above-range}
 use Rattle.memory.proofs.Classes.{class-upper}
 use Rattle.memory.proofs.Range.{every, at}
 
@@ -25,19 +25,8 @@ reach-0 Second = refl
 reach-0 Third = refl
 reach-0 Absent = refl
 
-abbrev same : Bool → Bool → Bool
-same true b = b
-same false true = false
-same false false = true
-
-same→eq : (a b : Bool) → T (same a b) → a ≡ b
-same→eq true true t = refl
-same→eq true false t = absurd t
-same→eq false true t = absurd t
-same→eq false false t = refl
-
 -- a property of the class is a test of the address, if antt computes it so in the lower half and it is so in the upper
-by-address : (f : Class → Bool) (g : ℕ → Bool) → T (every (λ (k : ℕ). same (f (classOf k)) (g k)) 0 128)
+pub by-address : (f : Class → Bool) (g : ℕ → Bool) → T (every (λ (k : ℕ). same (f (classOf k)) (g k)) 0 128)
     → ((a : ℕ) → 0x80 ≤ a → f Upper ≡ g a) → (a : ℕ) → f (classOf a) ≡ g a
 by-address f g t u a = go (ltb a 0x80) refl
   where

@@ -7,9 +7,9 @@ use Prim.Native.Nat.{ℕ, zero, suc, _+_, _%_, _≤_, _<_}
 use native.Mathlib.Decide.{le-ind}
 use native.Mathlib.Omega.{arith}
 use lib.Dec.{ltb, eqb}
-use lib.ListN.{length, getD, take, set, length-take}
-use borrow.Author.Tests.{ltb-true, lt-ltb, eq-eqb, eqb-true}
-use lib.Seq.{getD-set-same, getD-set-other, getD-take, ext-getD}
+use lib.ListN.{length, getD, set}
+use borrow.Author.Tests.{ltb-true, lt-ltb, eqb-true}
+use lib.Seq.{getD-set-same, getD-set-other}
 use Rattle.memory.specs.declared.Memory.{Memory}
 use Rattle.memory.specs.declared.Table.{Table}
 use Rattle.memory.specs.declared.Table.the-variants.{First, Second, Third, Absent}
@@ -23,7 +23,7 @@ use Rattle.memory.proofs.View.{write-reach}
 use Rattle.memory.proofs.Whole.{Whole, whole-page}
 
 -- the byte of a half, table t being selected
-abbrev half : Bool → Memory → Table → ℕ → ℕ
+abbrev pub half : Bool → Memory → Table → ℕ → ℕ
 half true m t i = getD (m .lower) i 0
 half false m t i = getD (bytesOf m t) i 0
 

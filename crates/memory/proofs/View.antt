@@ -7,13 +7,13 @@ use mathlib.Core.Bool.{Bool, true, false, cond, _&&_}
 use mathlib.Core.List.{List}
 use native.Mathlib.Omega.{arith}
 use lib.ListN.{getD, set}
-use lib.Dec.{ltb, leb}
+use lib.Dec.{ltb}
 use borrow.Author.Tests.{ltb-false, leb-true, le-leb, lt-leb}
 use Rattle.memory.specs.Bytes.{bitOf}
 use Rattle.memory.specs.Access.{classOf, tableOf, reachOf, bytesOf, readTable, readClass, readAt, writeClass, writableAt}
 use Rattle.memory.specs.Page.{withLower, storeTable, storeOf, placeOf, pageOf}
 use Rattle.memory.specs.Power.{cycledMemory}
-use Rattle.memory.specs.Closed.{closedAt, openMemory}
+use Rattle.memory.specs.Closed.{openMemory}
 use Rattle.memory.specs.declared.Memory.{Memory}
 use Rattle.memory.specs.declared.Table.{Table}
 use Rattle.memory.specs.declared.Table.the-variants.{First, Second, Third, Absent}
@@ -29,7 +29,7 @@ unfolding writableAt writeClass
 write-reach l m a w e = rw (class-upper a (ltb-false a 0x80 e)) at w
 
 pub cycled-open : (v : ℕ) (m : Memory) → cycledMemory (openMemory v m) ≡ openMemory v (cycledMemory m)
-unfolding cycledMemory closedAt
+unfolding cycledMemory
 cycled-open v m = rw (shown-set v (m .table3) 0x68 0x04 refl)
 
 module _ (v l : ℕ) (own : l ≤ v) (short : v ≤ 1) where

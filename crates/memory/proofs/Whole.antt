@@ -3,16 +3,19 @@
 use Prim.Native.Nat.{ℕ, zero, suc, _+_, _%_}
 use mathlib.Core.Path.{_≡_, refl, _∙_}
 use mathlib.Core.Bool.{Bool, true, false, cond, _&&_}
-use mathlib.Core.List.{List, [], _∷_}
+use mathlib.Core.List.{List}
 use native.Mathlib.Omega.{arith}
-use lib.ListN.{length, getD, take, drop, set, replicate, length-append, length-set, length-drop, length-take}
-use lib.Dec.{ltb}
+use lib.ListN.{length, getD, set, length-append, length-set, length-drop, length-take}
+use lib.Dec.{ltb, leb, eqb}
+use borrow.Author.Tests.{eqb-true}
 use Rattle.memory.specs.Bytes.{bitOf}
 use Rattle.memory.specs.Access.{tableOf, bytesOf, writableAt}
 use Rattle.memory.specs.Page.{withLower, withTable, storeTable, storeOf, placeOf, pageOf}
 use Rattle.memory.specs.Power.{cycledLower, cycledMemory}
-use Rattle.memory.specs.Image.{imageMemory}
+use Rattle.memory.specs.Image.{imageMemory, verdictOf, loadOf}
 use Rattle.memory.specs.declared.Memory.{Memory}
+use Rattle.memory.specs.declared.Verdict.the-variants.{Accepted, Refused}
+use Rattle.memory.specs.declared.Refusal.the-variants.{ImageSize, AselByte}
 use Rattle.memory.specs.declared.Table.{Table}
 use Rattle.memory.specs.declared.Table.the-variants.{First, Second, Third, Absent}
 
@@ -69,8 +72,17 @@ whole-cycled m w =
     whole-table Third (withLower m (cycledLower (m .lower))) (set (m .table3) 0x68 0x04) (length-set (m .table3) 0x68 0x04)
     (whole-lower m (cycledLower (m .lower)) (cycled-length (m .lower)) w)
 
--- the memory of an image of 485 bytes
-pub whole-image : (image : List ℕ) → length image ≡ 485 → Whole (imageMemory image)
+-- the memory of an image that a start accepts
+image-size : (image : List ℕ) → verdictOf image ≡ Accepted → length image ≡ 485
+unfolding verdictOf
+image-size image e = go (eqb (length image) 485) refl e
+  where
+    go : (b : Bool) → eqb (length image) 485 ≡ b
+        → cond b (cond (leb (getD image 484 0) 1) Accepted (Refused AselByte 0)) (Refused ImageSize 0) ≡ Accepted → length image ≡ 485
+    go true q f = eqb-true (length image) 485 q
+    go false q f = let z : _≡_ {A = ℕ} 0 1 = cc in absurd (omega arith)
+
+whole-image : (image : List ℕ) → length image ≡ 485 → Whole (imageMemory image)
 unfolding imageMemory
 whole-image image h =
     record {
@@ -80,3 +92,7 @@ whole-image image h =
       table3 = simp (length-take, length-drop) (omega arith);
       password2 = refl;
     }
+
+pub whole-loaded : (image : List ℕ) → loadOf image .verdict ≡ Accepted → Whole (loadOf image .memory)
+unfolding loadOf
+whole-loaded image e = rw e (whole-cycled (imageMemory image) (whole-image image (image-size image e)))

@@ -7,7 +7,6 @@ use lib.Dec.{leb, eqb}
 use Rattle.memory.specs.Access.{four}
 use Rattle.memory.specs.Power.{cycledMemory}
 use Rattle.memory.specs.declared.Memory.{Memory}
-use Rattle.memory.specs.declared.Refusal.{Refusal}
 use Rattle.memory.specs.declared.Refusal.the-variants.{ImageSize, AselByte}
 use Rattle.memory.specs.declared.Verdict.{Verdict}
 use Rattle.memory.specs.declared.Verdict.the-variants.{Accepted, Refused}

@@ -12,7 +12,7 @@ use borrow.Author.Tests.{eqb-false, ne-eqb}
 use Rattle.memory.specs.Bytes.{within, bitOf}
 use Rattle.memory.specs.Access.{controlOf}
 use Rattle.memory.proofs.Bools.{or-false, clash, in-range, below-range}
-use Rattle.readings.specs.Readings.{channelNumber, readingOf, limitsOf, flaggedOf, storedReading, sampledOf, putFast, fastOf}
+use Rattle.readings.specs.Readings.{channelNumber, readingOf, flaggedOf, storedReading, sampledOf, putFast, fastOf}
 use Rattle.readings.specs.Public.{sampleWrite, fastWrite}
 use Rattle.readings.specs.declared.Channel.{Channel}
 use Rattle.readings.specs.declared.FastChannel.{FastChannel}

@@ -5,7 +5,6 @@ use native.Mathlib.Numerals.{add-one}
 use native.Mathlib.Omega.{arith}
 use lib.ListN.{replicate}
 use lib.Seq.{sets}
-use borrow.Author.Needs.{needs}
 use Rattle.memory.proofs.Lists.{fill-turn}
 use Rattle.memory.proofs.power.clear.Statement.{statement}
 use Rattle.memory.proofs.power.clear.Tie as tie
