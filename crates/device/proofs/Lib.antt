@@ -8,3 +8,4 @@ pub mod Traffic
 pub mod Worked
 pub mod Witness
 pub mod Back
+pub mod Rows

@@ -11,6 +11,10 @@ pub and-true : (p q : Bool) → (p && q) ≡ true → (p ≡ true) × (q ≡ tru
 and-true true q e = (refl, e)
 and-true false q e = absurd (subst (λ (b : Bool). cond b ⊥ (Unit {0})) e tt)
 
+pub true-right : (p : Bool) → (p && true) ≡ p
+true-right true = refl
+true-right false = refl
+
 pub or-false : (p q : Bool) → (p || q) ≡ false → (p ≡ false) × (q ≡ false)
 or-false true q e = absurd (subst (λ (b : Bool). cond b (Unit {0}) ⊥) e tt)
 or-false false q e = (refl, e)

@@ -21,6 +21,11 @@ channelNumber Bias = 2
 channelNumber Transmitted = 3
 channelNumber Received = 4
 
+abbrev pub fastNumber : FastChannel → ℕ
+fastNumber FastBias = 2
+fastNumber FastTransmitted = 3
+fastNumber FastReceived = 4
+
 -- raw × fine × 2^coarse / 32768, rounded down, at most 65535; coarse is the scale's top four bits, fine the lower twelve
 abbrev pub scaledOf : ℕ → ℕ → ℕ
 scaledOf scale raw = min 65535 (raw * (scale % 4096) * 2 ^ (scale / 4096) / 32768)
