@@ -32,12 +32,8 @@ use Rattle.device.specs.declared.Event.the-variants.{Start, Stop, Byte, 
 use Rattle.device.specs.declared.Answer.{Answer}
 use Rattle.device.specs.declared.Answer.the-variants.{Acknowledged, Data, Other}
 use Rattle.device.proofs.Masks.{held-bit, held-fits}
+use Rattle.device.proofs.Runs.{ran-append}
 use Rattle.device.proofs.Sound.{reached-sound}
-
-ran-append : (xs ys : List Event) (d : Device) → ranOf d (xs ++ ys) ≡ ranOf (ranOf d xs) ys
-unfolding ranOf
-ran-append [] ys d = refl
-ran-append (x ∷ xs) ys d = ran-append xs ys (stepOf d x .device)
 
 -- ---- the device answers to its address
 

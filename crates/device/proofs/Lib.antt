@@ -9,3 +9,4 @@ pub mod Worked
 pub mod Witness
 pub mod Back
 pub mod Rows
+pub mod Runs
