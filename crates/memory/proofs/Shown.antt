@@ -11,8 +11,13 @@ use borrow.Author.Tests.{ltb-true, ltb-false}
 use lib.ListN.{getD, set}
 use Rattle.memory.specs.Bytes.{within}
 use Rattle.memory.specs.Closed.{closedAt, hiddenFrom, shown}
-use Rattle.memory.proofs.Bools.{true-false, clash, above-range}
+use Rattle.memory.proofs.Bools.{true-right, true-false, clash, above-range}
 use Rattle.memory.proofs.Range.{at}
+
+-- from a stranger every closed byte is hidden, and nothing else
+pub stranger-hidden : (a : ℕ) → hiddenFrom 0 a ≡ closedAt a
+unfolding hiddenFrom
+stranger-hidden a = true-right (closedAt a)
 
 -- what is not closed is hidden from nobody
 open-shown : (v a : ℕ) → closedAt a ≡ false → hiddenFrom v a ≡ false
