@@ -10,6 +10,9 @@ use Rattle.device.specs.declared.Device.{Device}
 use Rattle.device.specs.declared.Raw.{Raw}
 use Rattle.device.specs.declared.Decoded.{Decoded}
 use Rattle.device.specs.declared.Decoded.the-variants.{Known, OutOfRange, UnknownLetter}
+use Rattle.device.specs.declared.Ruling.{Ruling}
+use Rattle.device.specs.declared.Ruling.the-variants as R
+use Rattle.device.specs.declared.Reply.{Reply}
 use Rattle.device.specs.declared.Reply.the-variants.{Answered, Refused}
 use Rattle.device.specs.declared.Applied.{Applied}
 use Rattle.device.specs.declared.Started.{Started}
@@ -27,6 +30,17 @@ unfoldable pub appliedTo : Device → Decoded → Applied
 appliedTo d (Known e) = record { device = stepOf d e .device; reply = Answered (stepOf d e .answer) }
 appliedTo d OutOfRange = refusedOf d
 appliedTo d UnknownLetter = refusedOf d
+
+-- what a raw event comes to, before it is known whether it stands in a log or alone; and the reply to it if it stands alone
+abbrev pub rulingOf : Device → Decoded → Ruling
+rulingOf d (Known e) = R.Answered (stepOf d e .answer)
+rulingOf d OutOfRange = R.OutOfRange
+rulingOf d UnknownLetter = R.UnknownLetter
+
+abbrev pub replyTo : Ruling → Reply
+replyTo (R.Answered a) = Answered a
+replyTo R.OutOfRange = Refused OutsideRange 0
+replyTo R.UnknownLetter = Refused OutsideRange 0
 
 unfoldable pub applyOf : Device → Raw → Applied
 applyOf d r = appliedTo d (decodeOf r)

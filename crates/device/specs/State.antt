@@ -7,8 +7,10 @@ use Rattle.memory.specs.declared.Memory.{Memory}
 use Rattle.device.specs.declared.Phase.{Phase}
 use Rattle.device.specs.declared.Phase.the-variants.{Idle}
 use Rattle.device.specs.declared.Device.{Device}
+use Rattle.device.specs.declared.BusState.{BusState}
 use Rattle.device.specs.declared.Answer.{Answer}
 use Rattle.device.specs.declared.Stepped.{Stepped}
+use Rattle.device.specs.declared.Moved.{Moved}
 
 -- no held page: a place that is not held is 0
 abbrev pub noPage : List ℕ
@@ -30,3 +32,25 @@ atRest m = record { memory = m; phase = Idle; pointer = 0x00; page = noPage; bus
 
 abbrev pub answered : Device → Answer → Stepped
 answered d r = record { device = d; answer = r }
+
+-- a device by its memory and its bus, and the bus of a device
+abbrev pub deviceIn : Memory → BusState → Device
+deviceIn m b = record { memory = m; phase = b .phase; pointer = b .pointer; page = b .page; busy = b .busy }
+
+abbrev pub busOf : Device → BusState
+busOf d = record { phase = d .phase; pointer = d .pointer; page = d .page; busy = d .busy }
+
+-- the bus of a device at rest
+abbrev pub busAtRest : BusState
+busAtRest = record { phase = Idle; pointer = 0x00; page = noPage; busy = false }
+
+-- another phase, pointer and held page on a bus
+abbrev pub busWith : BusState → Phase → ℕ → List ℕ → BusState
+busWith b phase pointer page = record { phase = phase; pointer = pointer; page = page; busy = b .busy }
+
+-- what an event leaves of the bus, and its answer; and the same beside a memory
+abbrev pub movedBy : BusState → Answer → Moved
+movedBy b r = record { bus = b; answer = r }
+
+abbrev pub movedIn : Memory → Moved → Stepped
+movedIn m r = answered (deviceIn m (r .bus)) (r .answer)

@@ -1,14 +1,18 @@
-// The bus: S, E, B and R.
+// The bus: S, E, B and R. A memory stands behind the bus as its parts, which are lent: no event copies it.
 use super::Answer;
-use super::Device;
+use super::BusState;
+use super::Moved;
 use super::Phase;
-use super::Stepped;
 use super::state::on_bus;
 use super::state::reply_with;
 use memory::Memory;
 ghost use mathlib.Core.Path.{_≡_};
+ghost use mathlib.Core.Bool.{Bool};
 ghost use Prim.Native.Nat.{_*_, _/_, _%_};
-ghost use Rattle.memory.specs.Access.{levelOf};
+ghost use lib.ListN.{getD};
+ghost use Rattle.memory.specs.declared.Memory as M;
+ghost use Rattle.memory.specs.Access.{memoryIn, levelOf, readAt};
+ghost use Rattle.device.specs.State.{deviceIn, movedIn};
 ghost use Rattle.device.specs.Bus.{
   addressOf,
   heldOf,
@@ -30,16 +34,23 @@ fn even(x: u8) -> u8
     x / 2 * 2
 }
 
+// The device address, by D0h of table 03h and ASEL.
+pub fn address_by(own: u8, asel: bool) -> u8
+    ensures { λ r. ⌜ ((m : M.Memory) → getD (m .table3) 0x50 0 ≡ own → m .asel ≡ asel → r ≡ addressOf m) ⌝ }
+{
+    let cleared = even(own);
+    if asel { cleared } else { 0xA0 }
+}
+
 // The device address.
 pub fn address(m: Memory) -> u8
     ensures { λ r. ⌜ r ≡ addressOf m ⌝ }
 {
-    let own = even(m.table3[0x50]);
-    if m.asel { own } else { 0xA0 }
+    address_by(m.table3[0x50], m.asel)
 }
 
 // The mask of the held places.
-fn held(phase: Phase) -> u8
+pub fn held(phase: Phase) -> u8
     ensures { λ r. ⌜ r ≡ heldOf phase ⌝ }
 {
     match phase {
@@ -84,106 +95,135 @@ fn rest(phase: Phase, pointer: u8) -> u8
 }
 
 // S.
-pub fn on_start(d: Device) -> Device
-    ensures { λ r. ⌜ r ≡ startedOf d ⌝ }
+pub fn on_start(bus: BusState) -> BusState
+    ensures { λ r. ⌜ ((m : M.Memory) → deviceIn m r ≡ startedOf (deviceIn m bus)) ⌝ }
 {
-    let phase = d.phase;
-    let pointer = d.pointer;
-    on_bus(d, Phase::Listening, rest(phase, pointer), [0; 8])
+    let phase = bus.phase;
+    let pointer = bus.pointer;
+    on_bus(bus, Phase::Listening, rest(phase, pointer), [0; 8])
 }
 
 // E. Busy begins also if every byte of the page was dropped.
-pub fn on_stop(d: Device) -> Device
-    ensures { λ r. ⌜ r ≡ stoppedAt (levelOf (d .memory)) d ⌝ }
+pub fn on_stop(
+    lower: &mut [u8; 128],
+    table1: &mut [u8; 128],
+    table2: &mut [u8; 128],
+    table3: &mut [u8; 128],
+    password2: [u8; 4],
+    bus: BusState,
+) -> BusState
+    ensures { λ r. ⌜ ((asel : Bool) → let m = memoryIn (now (lower .entry)) (now (table1 .entry)) (now (table2 .entry)) (now (table3 .entry)) password2 asel in deviceIn (memoryIn (now (lower .exit)) (now (table1 .exit)) (now (table2 .exit)) (now (table3 .exit)) password2 asel) r ≡ stoppedAt (levelOf m) (deviceIn m bus)) ⌝ }
 {
-    let memory = d.memory;
-    let phase = d.phase;
-    let pointer = d.pointer;
-    let page = d.page;
+    let phase = bus.phase;
+    let pointer = bus.pointer;
+    let page = bus.page;
     let mask = held(phase);
-    let stored = memory::store_page(memory, pointer, mask, page);
+    memory::store_page(
+        lower,
+        table1,
+        table2,
+        table3,
+        password2,
+        pointer,
+        mask,
+        page,
+    );
     let begins = (mask != 0) & !((0x60 <= pointer) & (pointer <= 0x7F));
-    let mut next = on_bus(d, Phase::Idle, rest(phase, pointer), [0; 8]);
-    next.memory = stored;
-    next.busy = d.busy | begins;
+    let mut next = on_bus(bus, Phase::Idle, rest(phase, pointer), [0; 8]);
+    next.busy = bus.busy | begins;
     next
 }
 
 // B, listening.
-fn listen(d: Device, v: u8) -> Stepped
-    ensures { λ r. ⌜ r ≡ listenedOf d v ⌝ }
+fn listen(bus: BusState, address: u8, v: u8) -> Moved
+    ensures { λ r. ⌜ ((m : M.Memory) → addressOf m ≡ address → movedIn m r ≡ listenedOf (deviceIn m bus) v) ⌝ }
 {
-    let memory = d.memory;
-    let page = d.page;
-    let pointer = d.pointer;
-    if !d.busy & (even(v) == address(memory)) {
+    let page = bus.page;
+    let pointer = bus.pointer;
+    if !bus.busy & (even(v) == address) {
         if v % 2 == 0 {
             return reply_with(
-                on_bus(d, Phase::Addressed, pointer, page),
+                on_bus(bus, Phase::Addressed, pointer, page),
                 Answer::Acknowledged,
             );
         }
         return reply_with(
-            on_bus(d, Phase::Reading, pointer, page),
+            on_bus(bus, Phase::Reading, pointer, page),
             Answer::Acknowledged,
         );
     }
     reply_with(
-        on_bus(d, Phase::Idle, pointer, page),
+        on_bus(bus, Phase::Idle, pointer, page),
         Answer::NotAcknowledged,
     )
 }
 
 // B, writing.
-fn gather(d: Device, mask: u8, v: u8) -> Device
-    ensures { λ r. ⌜ r ≡ gatheredOf d mask v ⌝ }
+fn gather(bus: BusState, mask: u8, v: u8) -> BusState
+    ensures { λ r. ⌜ ((m : M.Memory) → deviceIn m r ≡ gatheredOf (deviceIn m bus) mask v) ⌝ }
 {
-    let pointer = d.pointer;
-    let mut page = d.page;
+    let pointer = bus.pointer;
+    let mut page = bus.page;
     let i = (pointer % 8) as usize;
     page[i] = v;
     let next = pointer / 8 * 8 + ((pointer as u16 + 1) % 8) as u8;
-    on_bus(d, Phase::Writing(hold(pointer, mask)), next, page)
+    on_bus(bus, Phase::Writing(hold(pointer, mask)), next, page)
 }
 
 // B, in a phase.
-pub fn byte_in(phase: Phase, d: Device, v: u8) -> Stepped
-    ensures { λ r. ⌜ r ≡ byteIn phase d v ⌝ }
+pub fn byte_in(phase: Phase, bus: BusState, address: u8, v: u8) -> Moved
+    ensures { λ r. ⌜ ((m : M.Memory) → addressOf m ≡ address → movedIn m r ≡ byteIn phase (deviceIn m bus) v) ⌝ }
 {
-    let page = d.page;
+    let page = bus.page;
     match phase {
-        Phase::Idle => reply_with(d, Answer::NotAcknowledged),
-        Phase::Listening => listen(d, v),
-        Phase::Addressed => reply_with(on_bus(d, Phase::Writing(0), v, page), Answer::Acknowledged),
-        Phase::Writing(mask) => reply_with(gather(d, mask, v), Answer::Acknowledged),
-        Phase::Reading => reply_with(d, Answer::NotAcknowledged),
+        Phase::Idle => reply_with(bus, Answer::NotAcknowledged),
+        Phase::Listening => listen(bus, address, v),
+        Phase::Addressed => {
+            reply_with(
+                on_bus(bus, Phase::Writing(0), v, page),
+                Answer::Acknowledged,
+            )
+        }
+        Phase::Writing(mask) => reply_with(gather(bus, mask, v), Answer::Acknowledged),
+        Phase::Reading => reply_with(bus, Answer::NotAcknowledged),
     }
 }
 
-// R, reading.
-fn clock(d: Device, last: bool) -> Stepped
-    ensures { λ r. ⌜ r ≡ readIn Phase.Reading (levelOf (d .memory)) d last ⌝ }
+// R, reading: `byte` stands at the pointer.
+fn clock(bus: BusState, byte: u8, last: bool) -> Moved
+    ensures { λ r. ⌜ ((m : M.Memory) → readAt (levelOf m) m (bus .pointer) ≡ byte → movedIn m r ≡ readIn Phase.Reading (levelOf m) (deviceIn m bus) last) ⌝ }
 {
-    let memory = d.memory;
-    let page = d.page;
-    let pointer = d.pointer;
-    let byte = memory::read(memory, pointer);
+    let page = bus.page;
+    let pointer = bus.pointer;
     let next = ((pointer as u16 + 1) % 256) as u8;
     if last {
-        return reply_with(on_bus(d, Phase::Idle, next, page), Answer::Data(byte));
+        return reply_with(on_bus(bus, Phase::Idle, next, page), Answer::Data(byte));
     }
-    reply_with(on_bus(d, Phase::Reading, next, page), Answer::Data(byte))
+    reply_with(on_bus(bus, Phase::Reading, next, page), Answer::Data(byte))
 }
 
 // R, in a phase; `last` where the host does not acknowledge.
-pub fn read_in(phase: Phase, d: Device, last: bool) -> Stepped
-    ensures { λ r. ⌜ r ≡ readIn phase (levelOf (d .memory)) d last ⌝ }
+pub fn read_in(
+    phase: Phase,
+    lower: &[u8; 128],
+    table1: &[u8; 128],
+    table2: &[u8; 128],
+    table3: &[u8; 128],
+    password2: [u8; 4],
+    bus: BusState,
+    last: bool,
+) -> Moved
+    ensures { λ r. ⌜ ((asel : Bool) → let m = memoryIn (now (lower .entry)) (now (table1 .entry)) (now (table2 .entry)) (now (table3 .entry)) password2 asel in movedIn m r ≡ readIn phase (levelOf m) (deviceIn m bus) last) ⌝ }
 {
+    let pointer = bus.pointer;
     match phase {
-        Phase::Idle => reply_with(d, Answer::Data(0xFF)),
-        Phase::Listening => reply_with(d, Answer::Data(0xFF)),
-        Phase::Addressed => reply_with(d, Answer::Data(0xFF)),
-        Phase::Writing(_) => reply_with(d, Answer::Data(0xFF)),
-        Phase::Reading => clock(d, last),
+        Phase::Idle => reply_with(bus, Answer::Data(0xFF)),
+        Phase::Listening => reply_with(bus, Answer::Data(0xFF)),
+        Phase::Addressed => reply_with(bus, Answer::Data(0xFF)),
+        Phase::Writing(_) => reply_with(bus, Answer::Data(0xFF)),
+        Phase::Reading => {
+            let byte = memory::read_in(lower, table1, table2, table3, password2, pointer);
+            clock(bus, byte, last)
+        }
     }
 }

@@ -1,40 +1,36 @@
 // W, C, I, A and F, and the step over all nine events.
 use super::Answer;
+use super::BusState;
 use super::Device;
 use super::Event;
+use super::Moved;
 use super::Pins;
 use super::Stepped;
+use super::bus::address_by;
 use super::bus::byte_in;
 use super::bus::on_start;
 use super::bus::on_stop;
 use super::bus::read_in;
-use super::state::at_rest;
+use super::state::bus_at_rest;
+use super::state::bus_of;
+use super::state::device_in;
 use super::state::reply_with;
-use super::state::with_memory;
-use readings::Channel;
-use readings::FastChannel;
+use memory::Memory;
 ghost use mathlib.Core.Path.{_≡_};
 ghost use mathlib.Core.Bool.{false, cond};
 ghost use Prim.Native.Nat.{_≤_};
-ghost use Rattle.memory.specs.Power.{cycledMemory};
-ghost use Rattle.device.specs.State.{withBusy, atRest};
-ghost use Rattle.device.specs.Step.{pinByte, pinnedOf, sampleStep, fastStep, stepOf};
+ghost use Rattle.memory.specs.declared.Memory as M;
+ghost use Rattle.memory.specs.Access.{memoryIn};
+ghost use Rattle.device.specs.State.{withBusy, deviceIn, movedIn};
+ghost use Rattle.device.specs.Step.{pinByte, stepOf};
 
 // W.
-fn write_done(d: Device) -> Device
-    ensures { λ r. ⌜ r ≡ withBusy d false ⌝ }
+fn write_done(bus: BusState) -> BusState
+    ensures { λ r. ⌜ ((m : M.Memory) → deviceIn m r ≡ withBusy (deviceIn m bus) false) ⌝ }
 {
-    let mut next = d;
+    let mut next = bus;
     next.busy = false;
     next
-}
-
-// C.
-fn power_cycle(d: Device) -> Device
-    ensures { λ r. ⌜ r ≡ atRest (cycledMemory (d .memory)) ⌝ }
-{
-    let memory = d.memory;
-    at_rest(memory::power_cycle(memory))
 }
 
 // A weight where a pin is set.
@@ -50,47 +46,81 @@ pub fn pin_byte(p: Pins) -> u8
     weight(p.d, 128) + weight(p.rs, 16) + weight(p.f, 4) + weight(p.l, 2)
 }
 
-// I.
-fn set_pins(d: Device, p: Pins) -> Device
-    ensures { λ r. ⌜ r ≡ pinnedOf d p ⌝ }
+// One event, over a memory that is lent as its parts: what it leaves of the bus, and its answer.
+pub fn step_in(
+    lower: &mut [u8; 128],
+    table1: &mut [u8; 128],
+    table2: &mut [u8; 128],
+    table3: &mut [u8; 128],
+    password2: [u8; 4],
+    asel: bool,
+    bus: BusState,
+    e: Event,
+) -> Moved
+    ensures { λ r. ⌜ movedIn (memoryIn (now (lower .exit)) (now (table1 .exit)) (now (table2 .exit)) (now (table3 .exit)) password2 asel) r ≡ stepOf (deviceIn (memoryIn (now (lower .entry)) (now (table1 .entry)) (now (table2 .entry)) (now (table3 .entry)) password2 asel) bus) e ⌝ }
 {
-    let memory = d.memory;
-    with_memory(d, memory::set_pins(memory, pin_byte(p)))
-}
-
-// A.
-fn take_sample(d: Device, c: Channel, raw: u16) -> Stepped
-    ensures { λ r. ⌜ r ≡ sampleStep d c raw ⌝ }
-{
-    let memory = d.memory;
-    let taken = readings::taken(memory);
-    let next = readings::sample(memory, c, raw);
-    reply_with(with_memory(d, next), Answer::Other(taken))
-}
-
-// F.
-fn take_fast(d: Device, c: FastChannel, v: u8) -> Stepped
-    ensures { λ r. ⌜ r ≡ fastStep d c v ⌝ }
-{
-    let memory = d.memory;
-    let next = readings::fast_sample(memory, c, v);
-    reply_with(with_memory(d, next), Answer::Other(0))
+    let phase = bus.phase;
+    match e {
+        Event::Start => reply_with(on_start(bus), Answer::Other(0)),
+        Event::Stop => {
+            let next = on_stop(lower, table1, table2, table3, password2, bus);
+            reply_with(next, Answer::Other(0))
+        }
+        Event::Byte(v) => byte_in(phase, bus, address_by(table3[0x50], asel), v),
+        Event::Read(last) => { read_in(phase, lower, table1, table2, table3, password2, bus, last) }
+        Event::WriteDone => reply_with(write_done(bus), Answer::Other(0)),
+        Event::PowerCycle => {
+            memory::power_cycle_in(lower, table3);
+            reply_with(bus_at_rest(), Answer::Other(0))
+        }
+        Event::PinsSet(p) => {
+            lower[0x6E] = pin_byte(p);
+            reply_with(bus, Answer::Other(0))
+        }
+        Event::Sample(c, raw) => {
+            readings::sample(lower, table3, c, raw);
+            reply_with(bus, Answer::Other(readings::taken(table3)))
+        }
+        Event::FastSample(c, v) => {
+            readings::fast_sample(lower, table3, c, v);
+            reply_with(bus, Answer::Other(0))
+        }
+    }
 }
 
 // One event: the device after it, and its answer.
 pub fn step(d: Device, e: Event) -> Stepped
     ensures { λ r. ⌜ r ≡ stepOf d e ⌝ }
 {
-    let phase = d.phase;
-    match e {
-        Event::Start => reply_with(on_start(d), Answer::Other(0)),
-        Event::Stop => reply_with(on_stop(d), Answer::Other(0)),
-        Event::Byte(v) => byte_in(phase, d, v),
-        Event::Read(last) => read_in(phase, d, last),
-        Event::WriteDone => reply_with(write_done(d), Answer::Other(0)),
-        Event::PowerCycle => reply_with(power_cycle(d), Answer::Other(0)),
-        Event::PinsSet(p) => reply_with(set_pins(d, p), Answer::Other(0)),
-        Event::Sample(c, raw) => take_sample(d, c, raw),
-        Event::FastSample(c, v) => take_fast(d, c, v),
+    let memory = d.memory;
+    let mut lower = memory.lower;
+    let mut table1 = memory.table1;
+    let mut table2 = memory.table2;
+    let mut table3 = memory.table3;
+    let password2 = memory.password2;
+    let asel = memory.asel;
+    let moved = step_in(
+        &mut lower,
+        &mut table1,
+        &mut table2,
+        &mut table3,
+        password2,
+        asel,
+        bus_of(d),
+        e,
+    );
+    let bus = moved.bus;
+    let answer = moved.answer;
+    let after = Memory {
+        lower,
+        table1,
+        table2,
+        table3,
+        password2,
+        asel,
+    };
+    Stepped {
+        device: device_in(after, bus),
+        answer,
     }
 }

@@ -11,3 +11,5 @@ pub mod Public
 pub mod Stored
 pub mod Cycle
 pub mod Back
+pub mod Unseen
+pub mod Outside

@@ -24,7 +24,7 @@ open-shown : (v a : ℕ) → closedAt a ≡ false → hiddenFrom v a ≡ false
 unfolding hiddenFrom
 open-shown v a e = rw e
 
-shown-from : (v a : ℕ) (t : List ℕ) (i : ℕ) → hiddenFrom v (a + i) ≡ false → getD (shown v a t) i 0 ≡ getD t i 0
+pub shown-from : (v a : ℕ) (t : List ℕ) (i : ℕ) → hiddenFrom v (a + i) ≡ false → getD (shown v a t) i 0 ≡ getD t i 0
 unfolding shown
 shown-from v a [] i e = refl
 shown-from v a (x ∷ xs) zero e = rw (rw add-zero at e)
@@ -36,6 +36,14 @@ set-from v a [] i x e = refl
 set-from v a (y ∷ ys) zero x e = rw (rw add-zero at e)
 set-from v a (y ∷ ys) (suc i) x e =
     ap {B = List ℕ} (λ r. cond (hiddenFrom v a) 0 y ∷ r) (set-from v (suc a) ys i x (ap (hiddenFrom v) (suc-add a i ∙ sym (add-suc a i)) ∙ e))
+
+-- a byte that is hidden can be any
+pub hidden-set : (v a : ℕ) (t : List ℕ) (i x : ℕ) → hiddenFrom v (a + i) ≡ true → shown v a (set t i x) ≡ shown v a t
+unfolding shown
+hidden-set v a [] i x e = refl
+hidden-set v a (y ∷ ys) zero x e = rw (rw add-zero at e)
+hidden-set v a (y ∷ ys) (suc i) x e =
+    ap {B = List ℕ} (λ r. cond (hiddenFrom v a) 0 y ∷ r) (hidden-set v (suc a) ys i x (ap (hiddenFrom v) (suc-add a i ∙ sym (add-suc a i)) ∙ e))
 
 -- the bytes of table 03h on which readings, flags and acknowledgements depend: limits; scales and D0h; trips and E8h
 abbrev pub deciding : ℕ → Bool

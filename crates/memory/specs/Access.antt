@@ -11,6 +11,11 @@ use Rattle.memory.specs.declared.Class.the-variants.{Eeprom, Status, Hid
 use Rattle.memory.specs.declared.Table.{Table}
 use Rattle.memory.specs.declared.Table.the-variants.{First, Second, Third, Absent}
 
+-- a memory by its parts
+abbrev pub memoryIn : (lower table1 table2 table3 password2 : List ℕ) (asel : Bool) → Memory
+memoryIn lower table1 table2 table3 password2 asel =
+    record { lower = lower; table1 = table1; table2 = table2; table3 = table3; password2 = password2; asel = asel }
+
 -- four bytes, from place i on
 abbrev pub four : List ℕ → ℕ → List ℕ
 four xs i = getD xs i 0 ∷ getD xs (i + 1) 0 ∷ getD xs (i + 2) 0 ∷ getD xs (i + 3) 0 ∷ []

@@ -1,15 +1,29 @@
 -- Document 01, "Closed bytes", and the stored bytes of demand 3.
 use Prim.Native.Nat.{ℕ, suc}
-use mathlib.Core.Bool.{Bool, cond, not, _&&_, _||_}
+use mathlib.Core.Bool.{Bool, true, false, cond, not, _&&_, _||_}
 use mathlib.Core.List.{List, [], _∷_}
 use lib.ListN.{take, set}
-use lib.Dec.{leb}
+use lib.Dec.{leb, ltb}
 use Rattle.memory.specs.Bytes.{within}
+use Rattle.memory.specs.Access.{tableAt}
 use Rattle.memory.specs.declared.Memory.{Memory}
+use Rattle.memory.specs.declared.Table.{Table}
+use Rattle.memory.specs.declared.Table.the-variants.{First, Second, Third, Absent}
 
 -- the closed addresses of table 03h
 unfoldable pub closedAt : ℕ → Bool
 closedAt a = within 0xA8 0xC7 a || within 0xD1 0xD7 a || within 0xE9 0xFF a
+
+-- the closed bytes of a table: 01h and 02h whole
+abbrev pub closedIn : Table → ℕ → Bool
+closedIn First a = true
+closedIn Second a = true
+closedIn Third a = closedAt a
+closedIn Absent a = false
+
+-- whether the byte that address a names under select s is closed
+unfoldable pub closedUnder : ℕ → ℕ → Bool
+closedUnder s a = cond (ltb a 0x80) false (closedIn (tableAt s) a)
 
 -- who looks, by the level that the viewer's own password opens: a stranger has none and is viewer 0, from whom every closed
 -- byte is hidden; the holder of password 1 is viewer 1 and knows it

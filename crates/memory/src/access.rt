@@ -4,12 +4,16 @@ use super::Memory;
 use super::Table;
 use super::page::bit_of;
 ghost use mathlib.Core.Path.{_≡_};
-ghost use Prim.Native.Nat.{_%_};
+ghost use mathlib.Core.Bool.{Bool};
+ghost use mathlib.Core.List.{List};
+ghost use Prim.Native.Nat.{ℕ, _%_};
 ghost use lib.ListN.{getD};
+ghost use Rattle.memory.specs.declared.Memory as M;
 ghost use Rattle.memory.specs.Access.{
-  entryOf,
-  password1Of,
-  password2Of,
+  memoryIn,
+  selectOf,
+  controlOf,
+  four,
   sameFour,
   levelOf,
   classOf,
@@ -37,31 +41,31 @@ pub fn class_of(address: u8) -> Class
 }
 
 // Whether the entry, 7Bh to 7Eh, equals password 2.
-fn enters2(m: Memory) -> bool
-    ensures { λ r. ⌜ r ≡ sameFour (entryOf m) (password2Of m) ⌝ }
+fn enters2(lower: &[u8; 128], password2: [u8; 4]) -> bool
+    ensures { λ r. ⌜ r ≡ sameFour (four (now (lower .entry)) 0x7B) (four password2 0) ⌝ }
 {
-    (m.lower[0x7B] == m.password2[0])
-        & (m.lower[0x7C] == m.password2[1])
-        & (m.lower[0x7D] == m.password2[2])
-        & (m.lower[0x7E] == m.password2[3])
+    (lower[0x7B] == password2[0])
+        & (lower[0x7C] == password2[1])
+        & (lower[0x7D] == password2[2])
+        & (lower[0x7E] == password2[3])
 }
 
 // Whether the entry equals password 1, D3h to D6h of table 03h.
-fn enters1(m: Memory) -> bool
-    ensures { λ r. ⌜ r ≡ sameFour (entryOf m) (password1Of m) ⌝ }
+fn enters1(lower: &[u8; 128], table3: &[u8; 128]) -> bool
+    ensures { λ r. ⌜ r ≡ sameFour (four (now (lower .entry)) 0x7B) (four (now (table3 .entry)) 0x53) ⌝ }
 {
-    (m.lower[0x7B] == m.table3[0x53])
-        & (m.lower[0x7C] == m.table3[0x54])
-        & (m.lower[0x7D] == m.table3[0x55])
-        & (m.lower[0x7E] == m.table3[0x56])
+    (lower[0x7B] == table3[0x53])
+        & (lower[0x7C] == table3[0x54])
+        & (lower[0x7D] == table3[0x55])
+        & (lower[0x7E] == table3[0x56])
 }
 
 // The level is never kept: it follows the entry.
-pub fn level(m: Memory) -> u8
-    ensures { λ r. ⌜ r ≡ levelOf m ⌝ }
+pub fn level_in(lower: &[u8; 128], table3: &[u8; 128], password2: [u8; 4]) -> u8
+    ensures { λ r. ⌜ ((table1 table2 : List ℕ) (asel : Bool) → r ≡ levelOf (memoryIn (now (lower .entry)) table1 table2 (now (table3 .entry)) password2 asel)) ⌝ }
 {
-    let second = enters2(m);
-    let first = enters1(m);
+    let second = enters2(lower, password2);
+    let first = enters1(lower, table3);
     if second {
         return 2;
     }
@@ -69,6 +73,15 @@ pub fn level(m: Memory) -> u8
         return 1;
     }
     0
+}
+
+pub fn level(m: Memory) -> u8
+    ensures { λ r. ⌜ r ≡ levelOf m ⌝ }
+{
+    let lower = m.lower;
+    let table3 = m.table3;
+    let password2 = m.password2;
+    level_in(&lower, &table3, password2)
 }
 
 pub fn table_at(select: u8) -> Table
@@ -94,32 +107,52 @@ fn reach(level: u8, t: Table) -> bool
     }
 }
 
-fn table_byte(m: Memory, t: Table, address: u8) -> u8
-    ensures { λ r. ⌜ r ≡ getD (bytesOf m t) (address % 128) 0 ⌝ }
+fn table_byte(
+    table1: &[u8; 128],
+    table2: &[u8; 128],
+    table3: &[u8; 128],
+    t: Table,
+    address: u8,
+) -> u8
+    ensures { λ r. ⌜ ((lower password2 : List ℕ) (asel : Bool) → r ≡ getD (bytesOf (memoryIn lower (now (table1 .entry)) (now (table2 .entry)) (now (table3 .entry)) password2 asel) t) (address % 128) 0) ⌝ }
 {
     let i = (address % 128) as usize;
     match t {
-        Table::First => m.table1[i],
-        Table::Second => m.table2[i],
-        Table::Third => m.table3[i],
+        Table::First => table1[i],
+        Table::Second => table2[i],
+        Table::Third => table3[i],
         Table::Absent => 0,
     }
 }
 
 // A read that the level forbids gives FFh.
-fn read_table(level: u8, m: Memory, t: Table, address: u8) -> u8
-    ensures { λ r. ⌜ r ≡ readTable level m t address ⌝ }
+fn read_table(
+    level: u8,
+    table1: &[u8; 128],
+    table2: &[u8; 128],
+    table3: &[u8; 128],
+    t: Table,
+    address: u8,
+) -> u8
+    ensures { λ r. ⌜ ((lower password2 : List ℕ) (asel : Bool) → r ≡ readTable level (memoryIn lower (now (table1 .entry)) (now (table2 .entry)) (now (table3 .entry)) password2 asel) t address) ⌝ }
 {
-    let byte = table_byte(m, t, address);
+    let byte = table_byte(table1, table2, table3, t, address);
     if reach(level, t) { byte } else { 0xFF }
 }
 
 // The byte that an address reads, at the level that the entry gives.
-pub fn read(m: Memory, address: u8) -> u8
-    ensures { λ r. ⌜ r ≡ readAt (levelOf m) m address ⌝ }
+pub fn read_in(
+    lower: &[u8; 128],
+    table1: &[u8; 128],
+    table2: &[u8; 128],
+    table3: &[u8; 128],
+    password2: [u8; 4],
+    address: u8,
+) -> u8
+    ensures { λ r. ⌜ ((asel : Bool) → let m = memoryIn (now (lower .entry)) (now (table1 .entry)) (now (table2 .entry)) (now (table3 .entry)) password2 asel in r ≡ readAt (levelOf m) m address) ⌝ }
 {
     let i = (address % 128) as usize;
-    let byte = m.lower[i];
+    let byte = lower[i];
     let c = class_of(address);
     match c {
         Class::Eeprom => byte,
@@ -129,15 +162,28 @@ pub fn read(m: Memory, address: u8) -> u8
         Class::Flags => byte,
         Class::FastFlags => byte,
         Class::Entry => 0,
-        Class::Upper => read_table(level(m), m, table_at(m.lower[0x7F]), address),
+        Class::Upper => {
+            let l = level_in(lower, table3, password2);
+            read_table(l, table1, table2, table3, table_at(lower[0x7F]), address)
+        }
     }
 }
 
-// Whether an address may be written at a level.
-pub fn writable_at(l: u8, m: Memory, address: u8) -> bool
-    ensures { λ r. ⌜ r ≡ writableAt l m address ⌝ }
+pub fn read(m: Memory, address: u8) -> u8
+    ensures { λ r. ⌜ r ≡ readAt (levelOf m) m address ⌝ }
 {
-    let control = m.table3[0x68];
+    let lower = m.lower;
+    let table1 = m.table1;
+    let table2 = m.table2;
+    let table3 = m.table3;
+    let password2 = m.password2;
+    read_in(&lower, &table1, &table2, &table3, password2, address)
+}
+
+// Whether an address may be written at a level, by E8h and the table select.
+pub fn writable_by(l: u8, control: u8, select: u8, address: u8) -> bool
+    ensures { λ r. ⌜ ((m : M.Memory) → controlOf (m .table3) ≡ control → selectOf m ≡ select → r ≡ writableAt l m address) ⌝ }
+{
     let c = class_of(address);
     match c {
         Class::Eeprom => 2 <= l,
@@ -147,7 +193,7 @@ pub fn writable_at(l: u8, m: Memory, address: u8) -> bool
         Class::Flags => (2 <= l) & bit_of(control, 5),
         Class::FastFlags => (2 <= l) & bit_of(control, 1),
         Class::Entry => true,
-        Class::Upper => reach(l, table_at(m.lower[0x7F])),
+        Class::Upper => reach(l, table_at(select)),
     }
 }
 
@@ -155,5 +201,5 @@ pub fn writable_at(l: u8, m: Memory, address: u8) -> bool
 pub fn writable(m: Memory, address: u8) -> bool
     ensures { λ r. ⌜ r ≡ writableAt (levelOf m) m address ⌝ }
 {
-    writable_at(level(m), m, address)
+    writable_by(level(m), m.table3[0x68], m.lower[0x7F], address)
 }

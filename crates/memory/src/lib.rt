@@ -1,6 +1,7 @@
 // The memory of the monitor: the image that it starts from, the level that its password entry gives,
 // and who may read and write each address.
 mod access; // level, access class, read, writable
+mod closed; // the closed bytes
 mod image; // start from an image
 mod page; // a held page, stored at a stop
 mod power; // power cycle and pins
@@ -9,12 +10,14 @@ mod refusals; // the numbers of the refusals
 pub use access::class_of;
 pub use access::level;
 pub use access::read;
+pub use access::read_in;
 pub use access::writable;
+pub use closed::is_closed;
 pub use image::load;
 pub use page::bit_of;
 pub use page::store_page;
 pub use power::power_cycle;
-pub use power::set_pins;
+pub use power::power_cycle_in;
 pub use refusals::refusal_number;
 
 // `lower` is 00h to 7Fh; an address of the upper half is place address - 80h of its table.

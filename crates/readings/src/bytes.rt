@@ -23,9 +23,9 @@ fn wide(b: u8) -> u16
 }
 
 // The two-byte value at a place, high byte first.
-pub fn word(bytes: [u8; 128], i: usize) -> u16
+pub fn word(bytes: &[u8; 128], i: usize) -> u16
     requires { ⌜ i + 1 < 128 ⌝ }
-    ensures { λ r. ⌜ r ≡ wordAt bytes i ⌝ }
+    ensures { λ r. ⌜ r ≡ wordAt (now (bytes .entry)) i ⌝ }
 {
     wide(bytes[i]) * 256 + wide(bytes[i + 1])
 }
@@ -40,11 +40,10 @@ fn field(n: usize, width: usize, x: u8, f: u8) -> u8
     ((x as u64) / high * high + (f as u64) * low + (x as u64) % low) as u8
 }
 
-pub fn put_field(bytes: [u8; 128], i: usize, n: usize, width: usize, f: u8) -> [u8; 128]
+// Byte i has f in that field.
+pub fn put_field(bytes: &mut [u8; 128], i: usize, n: usize, width: usize, f: u8)
     requires { ⌜ (i < 128) × ((n + width ≤ 8) × (f < 2 ^ width)) ⌝ }
-    ensures { λ r. ⌜ r ≡ putField bytes i n width f ⌝ }
+    ensures { λ _. ⌜ now (bytes .exit) ≡ putField (now (bytes .entry)) i n width f ⌝ }
 {
-    let mut next = bytes;
-    next[i] = field(n, width, bytes[i], f);
-    next
+    bytes[i] = field(n, width, bytes[i], f);
 }

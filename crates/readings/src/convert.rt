@@ -32,9 +32,9 @@ fn scaled(scale: u16, raw: u16) -> u16
     }
 }
 
-pub fn reading(table3: [u8; 128], k: usize, raw: u16) -> u16
+pub fn reading(table3: &[u8; 128], k: usize, raw: u16) -> u16
     requires { ⌜ k < 5 ⌝ }
-    ensures { λ r. ⌜ r ≡ readingOf table3 k raw ⌝ }
+    ensures { λ r. ⌜ r ≡ readingOf (now (table3 .entry)) k raw ⌝ }
 {
     if k == 0 {
         return raw / 16 * 16;

@@ -2,10 +2,9 @@
 use super::FastChannel;
 use super::bytes::one_if;
 use super::bytes::put_field;
-use memory::Memory;
 ghost use mathlib.Core.Path.{_≡_};
 ghost use Prim.Native.Nat.{_<_};
-ghost use Rattle.readings.specs.Readings.{bandOf, tripAt, putFast, fastOf, fastMemory};
+ghost use Rattle.readings.specs.Readings.{bandOf, tripAt, putFast, fastOf};
 
 // The temperature band of the byte at 60h.
 fn band(b: u8) -> usize
@@ -30,9 +29,9 @@ fn trip_at(c: FastChannel, band: usize) -> usize
     }
 }
 
-fn put_fast(lower: [u8; 128], c: FastChannel, f: u8) -> [u8; 128]
+fn put_fast(lower: &mut [u8; 128], c: FastChannel, f: u8)
     requires { ⌜ f < 2 ⌝ }
-    ensures { λ r. ⌜ r ≡ putFast lower c f ⌝ }
+    ensures { λ _. ⌜ now (lower .exit) ≡ putFast (now (lower .entry)) c f ⌝ }
 {
     match c {
         FastChannel::FastBias => put_field(lower, 0x72, 3, 1, f),
@@ -41,25 +40,14 @@ fn put_fast(lower: [u8; 128], c: FastChannel, f: u8) -> [u8; 128]
     }
 }
 
-// The lower bytes: E8h bit 1 keeps the fast flags.
-fn fast_sampled(lower: [u8; 128], table3: [u8; 128], c: FastChannel, v: u8) -> [u8; 128]
-    ensures { λ r. ⌜ r ≡ fastOf lower table3 c v ⌝ }
+// A fast sample in the lower bytes: E8h bit 1 keeps the fast flags.
+pub fn fast_sample(lower: &mut [u8; 128], table3: &[u8; 128], c: FastChannel, v: u8)
+    ensures { λ _. ⌜ now (lower .exit) ≡ fastOf (now (lower .entry)) (now (table3 .entry)) c v ⌝ }
 {
     if table3[0x68] / 2 % 2 == 1 {
-        return lower;
+        return;
     }
     let at = trip_at(c, band(lower[0x60]));
     let above = table3[at] < v;
-    put_fast(lower, c, one_if(above))
-}
-
-pub fn fast_sample(m: Memory, c: FastChannel, v: u8) -> Memory
-    ensures { λ r. ⌜ r ≡ fastMemory m c v ⌝ }
-{
-    let lower = m.lower;
-    let table3 = m.table3;
-    let after = fast_sampled(lower, table3, c, v);
-    let mut next = m;
-    next.lower = after;
-    next
+    put_fast(lower, c, one_if(above));
 }

@@ -6,9 +6,9 @@ ghost use mathlib.Core.Path.{_≡_};
 ghost use Prim.Native.Nat.{_+_, _<_};
 ghost use Rattle.readings.specs.Readings.{fourAt, limitsOf, orderOf, flagsOf, flaggedOf};
 
-fn four(table3: [u8; 128], i: usize) -> [u16; 4]
+fn four(table3: &[u8; 128], i: usize) -> [u16; 4]
     requires { ⌜ i + 7 < 128 ⌝ }
-    ensures { λ r. ⌜ r ≡ fourAt table3 i ⌝ }
+    ensures { λ r. ⌜ r ≡ fourAt (now (table3 .entry)) i ⌝ }
 {
     [
         word(table3, i),
@@ -19,8 +19,8 @@ fn four(table3: [u8; 128], i: usize) -> [u16; 4]
 }
 
 // Each channel's high alarm, low alarm, high warning, low warning.
-pub fn limits_of(table3: [u8; 128]) -> [[u16; 4]; 5]
-    ensures { λ r. ⌜ r ≡ limitsOf table3 ⌝ }
+pub fn limits_of(table3: &[u8; 128]) -> [[u16; 4]; 5]
+    ensures { λ r. ⌜ r ≡ limitsOf (now (table3 .entry)) ⌝ }
 {
     [
         four(table3, 0),
@@ -51,15 +51,15 @@ fn flags(k: usize, x: u16, high: u16, low: u16) -> u8
 }
 
 // The flags of a channel after a reading, by the channel's four limits.
-pub fn flag(lower: [u8; 128], limits: [[u16; 4]; 5], k: usize, x: u16) -> [u8; 128]
+pub fn flag(lower: &mut [u8; 128], limits: [[u16; 4]; 5], k: usize, x: u16)
     requires { ⌜ k < 5 ⌝ }
-    ensures { λ r. ⌜ r ≡ flaggedOf lower limits k x ⌝ }
+    ensures { λ _. ⌜ now (lower .exit) ≡ flaggedOf (now (lower .entry)) limits k x ⌝ }
 {
     let four = limits[k];
     let alarms = flags(k, x, four[0], four[1]);
     let warnings = flags(k, x, four[2], four[3]);
     let byte = k / 4;
     let place = 6 - 2 * (k % 4);
-    let alarmed = put_field(lower, 0x70 + byte, place, 2, alarms);
-    put_field(alarmed, 0x74 + byte, place, 2, warnings)
+    put_field(lower, 0x70 + byte, place, 2, alarms);
+    put_field(lower, 0x74 + byte, place, 2, warnings);
 }

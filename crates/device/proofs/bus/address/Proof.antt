@@ -1,16 +1,11 @@
--- `address`: the strap selects the case. Assumes nothing.
-use Rattle.device.specs.Bus.{addressOf}
+-- `address`: what `address_by` says of D0h and ASEL of a memory. Assumes nothing.
+use mathlib.Core.Path.{refl}
 use borrow.Author.Needs.{needs}
 use Rattle.device.proofs.bus.address.Statement.{statement}
 use Rattle.device.proofs.bus.address.Tie as tie
 
 returns : tie.Need-returns
-unfolding addressOf
-returns c = rw (c .if1 .taken) (c .before .even .ensures)
-
-returns-2 : tie.Need-returns-2
-unfolding addressOf
-returns-2 c = rw (c .if1 .left)
+returns c = c .address-by .ensures _ refl refl
 
 pub address-spec : {M : Type 1} → statement M
-address-spec = tie.close (tie.spec (λ c. search needs) (λ c κs. search needs) returns returns-2)
+address-spec = tie.close (tie.spec (λ c. search needs) (λ c κs. search needs) returns)

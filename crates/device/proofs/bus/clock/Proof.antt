@@ -6,17 +6,16 @@ use Rattle.device.proofs.bus.clock.Tie as tie
 
 returns : tie.Need-returns
 unfolding readIn
-returns c = rw (c .reply-with .ensures, c .before .on-bus .ensures, c .before .before .before .read .ensures, c .before .before .if1 .taken)
+returns c m byte = rw (c .reply-with .ensures, c .before .on-bus .ensures, byte, c .before .before .if1 .taken)
 
 returns-2 : tie.Need-returns-2
 unfolding readIn
-returns-2 c = rw (c .reply-with2 .ensures, c .before .on-bus2 .ensures, c .before .before .before .read .ensures, c .before .before .if1 .left)
+returns-2 c m byte = rw (c .reply-with2 .ensures, c .before .on-bus2 .ensures, byte, c .before .before .if1 .left)
 
 pub clock-spec : {M : Type 1} → statement M
 clock-spec =
     tie.close
     (tie.spec
-    (λ c κs. search needs)
     (λ c. search needs)
     (λ c. search needs)
     (λ c. search needs)

@@ -6,7 +6,7 @@ use Rattle.device.proofs.bus.on_stop.Tie as tie
 
 returns : tie.Need-returns
 unfolding stoppedAt
-returns c = rw (c .before .on-bus .ensures, c .before .before .rest .ensures, c .before .before .before .store-page .ensures, c .before .before .before .before .held .ensures)
+returns c asel = rw (c .before .on-bus .ensures, c .before .before .rest .ensures, c .before .before .before .store-page .ensures asel, c .before .before .before .before .before .before .before .before .held .ensures)
 
 pub on-stop-spec : {M : Type 1} → statement M
 on-stop-spec =

@@ -1,29 +1,7 @@
--- `level`: each way out is the case of `levelOf` that its two tests select. Assumes nothing.
-use mathlib.Core.Path.{sym, _∙_}
+-- `level`: what `level_in` says of the parts of a memory. Assumes nothing.
 use borrow.Author.Needs.{needs}
-use Rattle.memory.specs.Access.{levelOf}
 use Rattle.memory.proofs.access.level.Statement.{statement}
 use Rattle.memory.proofs.access.level.Tie as tie
 
-returns : tie.Need-returns
-unfolding levelOf
-returns c = rw (sym (c .before .before .enters2 .ensures) ∙ c .if1 .taken)
-
-returns-2 : tie.Need-returns-2
-unfolding levelOf
-returns-2 c =
-    rw (
-      sym (c .before .before .before .enters2 .ensures) ∙ c .before .if1 .left,
-      sym (c .before .before .enters1 .ensures) ∙ c .if2 .taken,
-    )
-
-returns-3 : tie.Need-returns-3
-unfolding levelOf
-returns-3 c =
-    rw (
-      sym (c .before .before .before .enters2 .ensures) ∙ c .before .if1 .left,
-      sym (c .before .before .enters1 .ensures) ∙ c .if2 .left,
-    )
-
 pub level-spec : {M : Type 1} → statement M
-level-spec = tie.close (tie.spec (λ c κs. search needs) (λ c κs. search needs) returns returns-2 returns-3)
+level-spec = tie.close (tie.spec (λ c κs. search needs) (λ c. c .level-in .ensures _ _ _))

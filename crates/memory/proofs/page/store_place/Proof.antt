@@ -9,16 +9,23 @@ use Rattle.memory.proofs.page.store_place.Tie as tie
 
 returns : tie.Need-returns
 unfolding placeOf
-returns c =
-    let e : c .before .before .before .before .before .before .args .place % 8 ≡ c .before .before .before .before .before .before .args .place = omega arith in
-    rw (← (rw e at (c .before .before .before .before .before .bit-of .ensures)), ← c .before .before .before .before .writable-at .ensures, c .before .before .before .if1 .taken, ← c .before .table-at .ensures)
-    (c .store-at .ensures)
+returns c m password2 asel control select =
+    let at-start = c .before .before .before .before .before .before .before .before .before in
+    let e : at-start .args .place % 8 ≡ at-start .args .place = omega arith in
+    rw (
+      ← (rw e at (c .before .before .before .before .before .before .before .before .bit-of .ensures)),
+      ← c .before .before .before .before .before .before .before .writable-by .ensures m control select,
+      c .before .before .before .before .before .before .if1 .taken,
+      select,
+      ← c .before .before .before .before .before .table-at .ensures,
+    )
+    (c .store-at .ensures password2 asel)
 
 returns-2 : tie.Need-returns-2
 unfolding placeOf
-returns-2 c =
+returns-2 c m password2 asel control select =
     let e : c .before .before .before .args .place % 8 ≡ c .before .before .before .args .place = omega arith in
-    rw (← (rw e at (c .before .before .bit-of .ensures)), ← c .before .writable-at .ensures, c .if1 .left)
+    rw (← (rw e at (c .before .before .bit-of .ensures)), ← c .before .writable-by .ensures m control select, c .if1 .left)
 
 pub store-place-spec : {M : Type 1} → statement M
 store-place-spec =
@@ -28,7 +35,6 @@ store-place-spec =
     (λ c. search needs)
     (λ c κs. search needs)
     (λ c κs. search needs)
-    (λ c. search needs)
     (λ c κs. search needs)
     (λ c κs. search needs)
     returns

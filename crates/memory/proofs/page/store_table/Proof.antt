@@ -4,13 +4,16 @@ use Rattle.memory.proofs.page.store_table.Statement.{statement}
 use Rattle.memory.proofs.page.store_table.Tie as tie
 
 returns : tie.Need-returns
-returns c = rw (c .enum-told .given .1)
+returns c lower password2 asel = rw (c .enum-told .given .1)
 
 returns-2 : tie.Need-returns-2
-returns-2 c = rw (c .enum-told2 .given .1)
+returns-2 c lower password2 asel = rw (c .enum-told2 .given .1)
 
 returns-3 : tie.Need-returns-3
-returns-3 c = rw (c .enum-told3 .given .1)
+returns-3 c lower password2 asel = rw (c .enum-told3 .given .1)
+
+returns-4 : tie.Need-returns-4
+returns-4 c lower password2 asel = rw (c .enum-told4 .given .1)
 
 pub store-table-spec : {M : Type 1} → statement M
 store-table-spec =
@@ -26,4 +29,4 @@ store-table-spec =
     returns
     returns-2
     returns-3
-    (λ c. search needs))
+    returns-4)

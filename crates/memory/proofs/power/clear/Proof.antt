@@ -10,19 +10,19 @@ use Rattle.memory.proofs.power.clear.Statement.{statement}
 use Rattle.memory.proofs.power.clear.Tie as tie
 
 abbrev Inv-loop : tie.InvT-loop
-Inv-loop from n out₀ i₀ out i = (i ≤ n) × (out ≡ sets out₀ from (replicate i 0))
+Inv-loop bytes₀ from n i₀ bytes i = (i ≤ n) × (bytes ≡ sets bytes₀ from (replicate i 0))
 
 abbrev μ-loop : tie.MeasureT-loop
-μ-loop from n out₀ i₀ out i = n - i
+μ-loop bytes₀ from n i₀ bytes i = n - i
 
 loop-holds : tie.Need-loop-holds Inv-loop μ-loop
 loop-holds c = (omega arith, refl)
 
-add-out : tie.Need-add-out Inv-loop μ-loop
-add-out c = omega arith
+add-bytes : tie.Need-add-bytes Inv-loop μ-loop
+add-bytes c = omega arith
 
-array-write-out : tie.Need-array-write-out Inv-loop μ-loop
-array-write-out c = omega arith
+element-write-bytes : tie.Need-element-write-bytes Inv-loop μ-loop
+element-write-bytes c = omega arith
 
 add-i : tie.Need-add-i Inv-loop μ-loop
 add-i c = omega arith
@@ -34,7 +34,7 @@ loop-again : tie.Need-loop-again Inv-loop μ-loop
 loop-again c =
     let a = c .before .before .args in
     let i = c .before .loop .i in
-    (omega arith, rw (c .before .loop .inv .1, add-one) (fill-turn 0 i (a .bytes) (a .from)))
+    (omega arith, rw (c .before .loop .inv .1, add-one) (fill-turn 0 i (a .bytes .now) (a .from)))
 
 returns : tie.Need-returns Inv-loop μ-loop
 returns c =
@@ -48,8 +48,8 @@ clear-spec =
     Inv-loop
     μ-loop
     loop-holds
-    add-out
-    array-write-out
+    add-bytes
+    element-write-bytes
     add-i
     loop-less
     loop-again
