@@ -1,29 +1,55 @@
-// What a host links: one device that is kept, and single events and logs applied to it.
-use device::Device;
-use device::Raw;
-use device::Reply;
-use log::Outcome;
-ghost use mathlib.Core.Path.{_≡_};
-ghost use lib.ListN.{length};
-ghost use Rattle.device.specs.Calls.{applyOf};
-ghost use Rattle.log.specs.Run.{runOf, bufferOf};
+// What a host links: one device that is kept, and single events and logs applied to it; and the same for a C host, over a state without enums.
+mod calls; // what a call leaves of a state, and its number
+mod exports; // the functions that C calls
+mod kept; // a device that is kept by a Rattle host
+mod numbers; // answers and refusals as numbers
+mod states; // a device as a state, and back
 
-// A single event on the kept device: its reply; a refused one leaves the device.
-pub fn apply(d: &mut Device, raw: Raw) -> Reply
-    ensures { λ r. ⌜ (r ≡ applyOf (now (d .entry)) raw .reply) × (now (d .exit) ≡ applyOf (now (d .entry)) raw .device) ⌝ }
-{
-    let a = device::apply_raw(*d, raw);
-    *d = a.device;
-    a.reply
+pub use calls::applied;
+pub use calls::byte_at;
+pub use calls::level_of;
+pub use calls::ran;
+pub use calls::started;
+pub use exports::ds1852_apply;
+pub use exports::ds1852_level;
+pub use exports::ds1852_read;
+pub use exports::ds1852_run;
+pub use exports::ds1852_start;
+pub use exports::ds1852_write;
+pub use kept::apply;
+pub use kept::run_log;
+pub use numbers::answer_number;
+pub use numbers::outcome_number;
+pub use numbers::verdict_number;
+pub use states::device_of;
+pub use states::state_of;
+
+// A device as a C host holds it: 529 bytes, every value of which stands for a device.
+// Phases: 0 idle, 1 listening, 2 addressed, 3 writing, with the mask of the held places in `held`, 4 reading; any other number is idle.
+// `asel` and `busy`: 0 no, anything else yes.
+#[repr(C)]
+pub struct State {
+    pub lower: [u8; 128],
+    pub table1: [u8; 128],
+    pub table2: [u8; 128],
+    pub table3: [u8; 128],
+    pub password2: [u8; 4],
+    pub page: [u8; 8],
+    pub asel: u8,
+    pub phase: u8,
+    pub held: u8,
+    pub pointer: u8,
+    pub busy: u8,
 }
 
-// A log over the kept device: a refusal leaves the device and the answer buffer.
-pub fn run_log(d: &mut Device, events: &[u8], answers: &mut [u8]) -> Outcome
-    ensures { λ r. ⌜ (r ≡ runOf (now (d .entry)) (now (events .entry)) (length (now (answers .entry))) .outcome)
-        × (now (d .exit) ≡ runOf (now (d .entry)) (now (events .entry)) (length (now (answers .entry))) .device)
-        × (now (answers .exit) ≡ bufferOf (now (d .entry)) (now (events .entry)) (now (answers .entry))) ⌝ }
-{
-    let a = log::run(*d, events, answers);
-    *d = a.device;
-    a.outcome
+// What a start or a single event comes to.
+pub struct Called {
+    pub state: State,
+    pub number: u32,
+}
+
+// What a run over a log comes to.
+pub struct LogRun {
+    pub state: State,
+    pub number: u64,
 }

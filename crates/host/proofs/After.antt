@@ -1,0 +1,109 @@
+-- The state after a call stands for the device after it, and a refused call leaves the state as it was.
+-- Assumes nothing.
+use mathlib.Core.Path.{_≡_, refl}
+use Prim.Native.Nat.{ℕ, _^_, _<_, _≤_}
+use mathlib.Core.Logic.{_≢_}
+use mathlib.Core.Bool.{Bool, true, false, cond}
+use mathlib.Core.List.{List, _++_}
+use native.Mathlib.Omega.{arith}
+use borrow.Author.Tests.{leb-true}
+use lib.Dec.{leb}
+use lib.ListN.{length, drop}
+use Rattle.memory.specs.declared.Verdict.{Verdict}
+use Rattle.memory.specs.declared.Verdict.the-variants as Verdicts
+use Rattle.device.specs.Letters.{decodeOf}
+use Rattle.device.specs.Step.{stepOf}
+use Rattle.device.specs.Run as Runs
+use Rattle.device.specs.Calls.{startOf, appliedTo, applyOf}
+use Rattle.device.specs.declared.Device.{Device}
+use Rattle.device.specs.declared.Raw.{Raw}
+use Rattle.device.specs.declared.Decoded.{Decoded}
+use Rattle.device.specs.declared.Decoded.the-variants.{Known, OutOfRange, UnknownLetter}
+use Rattle.device.specs.declared.Reply.{Reply}
+use Rattle.device.specs.declared.Reply.the-variants as Replies
+use Rattle.log.specs.Log.{Read, Events, Stopped, readOf}
+use Rattle.log.specs.Run.{textOf, ranBy, runOf, bufferBy, bufferOf}
+use Rattle.log.specs.declared.Outcome.{Outcome}
+use Rattle.log.specs.declared.Outcome.the-variants as Outcomes
+use Rattle.log.proofs.Results.{ended}
+use Rattle.host.specs.State.{deviceOf, stateOf}
+use Rattle.host.specs.Numbers.{verdictNumber, replyNumber, outcomeNumber}
+use Rattle.host.specs.Calls.{afterVerdict, afterReply, afterOutcome, startedOf, appliedOf, ranOf}
+use Rattle.host.specs.declared.State.{State}
+use Rattle.host.proofs.Back.{back}
+use Rattle.host.proofs.Told.{answer-high, restIn}
+use Rattle.host.proofs.Fits.{run-fits}
+
+pub kept-start : (s : State) (image : List ℕ) → startOf image .verdict ≡ Verdicts.Accepted → startedOf s image .state ≡ stateOf (startOf image .device)
+unfolding startedOf
+kept-start s image e = rw e
+
+applied-kept : (s : State) (x : Decoded) → let a = appliedTo (deviceOf s) x in deviceOf (afterReply s (a .device) (a .reply)) ≡ a .device
+unfolding appliedTo
+applied-kept s (Known e) = back (stepOf (deviceOf s) e .device)
+applied-kept s OutOfRange = refl
+applied-kept s UnknownLetter = refl
+
+pub kept-apply : (s : State) (r : Raw) → deviceOf (appliedOf s r .state) ≡ applyOf (deviceOf s) r .device
+unfolding appliedOf applyOf
+kept-apply s r = applied-kept s (decodeOf r)
+
+ended-kept : (s : State) (size : ℕ) (d : Device) (fits : Bool) → let a = ended size (deviceOf s) d fits in deviceOf (afterOutcome s (a .device) (a .outcome)) ≡ a .device
+ended-kept s size d true = back d
+ended-kept s size d false = refl
+
+ran-kept : (s : State) (room : ℕ) (o : Read) → let a = ranBy (deviceOf s) room o in deviceOf (afterOutcome s (a .device) (a .outcome)) ≡ a .device
+unfolding ranBy
+ran-kept s room (Events es) =
+    let size = length (textOf (Runs.answersOf (deviceOf s) es)) in
+    ended-kept s size (Runs.ranOf (deviceOf s) es) (leb size room)
+ran-kept s room (Stopped why n) = refl
+
+pub kept-run : (s : State) (log : List ℕ) (room : ℕ) → deviceOf (ranOf s log room .state) ≡ runOf (deviceOf s) log room .device
+unfolding ranOf runOf
+kept-run s log room = ran-kept s room (readOf log)
+
+-- by the number alone: a start that does not return 0, and a single event that returns less than 256, leave the state byte for byte
+verdict-left : (s : State) (d : Device) (v : Verdict) → verdictNumber v ≢ 0 → afterVerdict s d v ≡ s
+verdict-left s d Verdicts.Accepted h = absurd (h refl)
+verdict-left s d (Verdicts.Refused why line) h = refl
+
+pub left-start : (s : State) (image : List ℕ) → startedOf s image .number ≢ 0 → startedOf s image .state ≡ s
+unfolding startedOf
+left-start s image = verdict-left s (startOf image .device) (startOf image .verdict)
+
+reply-left : (s : State) (d : Device) (y : Reply) → replyNumber y < 256 → afterReply s d y ≡ s
+reply-left s d (Replies.Answered a) h = absurd (omega (arith, answer-high a, h))
+reply-left s d (Replies.Refused why line) h = refl
+
+pub left-apply : (s : State) (r : Raw) → appliedOf s r .number < 256 → appliedOf s r .state ≡ s
+unfolding appliedOf
+left-apply s r = reply-left s (applyOf (deviceOf s) r .device) (applyOf (deviceOf s) r .reply)
+
+-- and a run that returns 2^32 or more leaves the state and the answer buffer, of less than 2^32 bytes
+outcome-left : (s : State) (d : Device) (o : Outcome) → restIn o < 2 ^ 32 → 2 ^ 32 ≤ outcomeNumber o → afterOutcome s d o ≡ s
+outcome-left s d (Outcomes.Done size) h g = absurd (omega (arith, h, g))
+outcome-left s d (Outcomes.Refused why line) h g = refl
+
+pub left-run : (s : State) (log : List ℕ) (room : ℕ) → room < 2 ^ 32 → 2 ^ 32 ≤ ranOf s log room .number → ranOf s log room .state ≡ s
+unfolding ranOf
+left-run s log room h = outcome-left s (runOf (deviceOf s) log room .device) (runOf (deviceOf s) log room .outcome) (run-fits (deviceOf s) log room h)
+
+ended-left : (d e : Device) (text b : List ℕ) → length b < 2 ^ 32
+    → 2 ^ 32 ≤ outcomeNumber (ended (length text) d e (leb (length text) (length b)) .outcome)
+    → cond (leb (length text) (length b)) (text ++ drop (length text) b) b ≡ b
+ended-left d e text b h = go (leb (length text) (length b)) refl
+  where
+    go : (fits : Bool) → leb (length text) (length b) ≡ fits → 2 ^ 32 ≤ outcomeNumber (ended (length text) d e fits .outcome)
+        → cond fits (text ++ drop (length text) b) b ≡ b
+    go true q g = absurd (omega (arith, leb-true (length text) (length b) q, h, g))
+    go false q g = refl
+
+buffer-left : (d : Device) (b : List ℕ) (o : Read) → length b < 2 ^ 32 → 2 ^ 32 ≤ outcomeNumber (ranBy d (length b) o .outcome) → bufferBy d b o ≡ b
+unfolding ranBy bufferBy
+buffer-left d b (Events es) h g = ended-left d (Runs.ranOf d es) (textOf (Runs.answersOf d es)) b h g
+buffer-left d b (Stopped why n) h g = refl
+
+pub left-answers : (s : State) (log b : List ℕ) → length b < 2 ^ 32 → 2 ^ 32 ≤ ranOf s log (length b) .number → bufferOf (deviceOf s) log b ≡ b
+unfolding ranOf runOf bufferOf
+left-answers s log b = buffer-left (deviceOf s) b (readOf log)
