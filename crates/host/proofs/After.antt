@@ -3,12 +3,11 @@
 use mathlib.Core.Path.{_≡_, refl}
 use Prim.Native.Nat.{ℕ, _^_, _<_, _≤_}
 use mathlib.Core.Logic.{_≢_}
-use mathlib.Core.Bool.{Bool, true, false, cond}
-use mathlib.Core.List.{List, _++_}
+use mathlib.Core.Bool.{Bool, true, false}
+use mathlib.Core.List.{List}
 use native.Mathlib.Omega.{arith}
-use borrow.Author.Tests.{leb-true}
 use lib.Dec.{leb}
-use lib.ListN.{length, drop}
+use lib.ListN.{length}
 use Rattle.memory.specs.declared.Verdict.{Verdict}
 use Rattle.memory.specs.declared.Verdict.the-variants as Verdicts
 use Rattle.device.specs.Letters.{decodeOf}
@@ -22,10 +21,10 @@ use Rattle.device.specs.declared.Decoded.the-variants.{Known, OutOfRange, Unkno
 use Rattle.device.specs.declared.Reply.{Reply}
 use Rattle.device.specs.declared.Reply.the-variants as Replies
 use Rattle.log.specs.Log.{Read, Events, Stopped, readOf}
-use Rattle.log.specs.Run.{textOf, ranBy, runOf, bufferBy, bufferOf}
+use Rattle.log.specs.Run.{textOf, ranBy, runOf, bufferOf}
 use Rattle.log.specs.declared.Outcome.{Outcome}
 use Rattle.log.specs.declared.Outcome.the-variants as Outcomes
-use Rattle.log.proofs.Results.{ended}
+use Rattle.log.proofs.Results.{ended, run-untouched}
 use Rattle.host.specs.State.{deviceOf, stateOf}
 use Rattle.host.specs.Numbers.{verdictNumber, replyNumber, outcomeNumber}
 use Rattle.host.specs.Calls.{afterVerdict, afterReply, afterOutcome, startedOf, appliedOf, ranOf}
@@ -89,21 +88,10 @@ pub left-run : (s : State) (log : List ℕ) (room : ℕ) → room < 2 ^ 32 → 2
 unfolding ranOf
 left-run s log room h = outcome-left s (runOf (deviceOf s) log room .device) (runOf (deviceOf s) log room .outcome) (run-fits (deviceOf s) log room h)
 
-ended-left : (d e : Device) (text b : List ℕ) → length b < 2 ^ 32
-    → 2 ^ 32 ≤ outcomeNumber (ended (length text) d e (leb (length text) (length b)) .outcome)
-    → cond (leb (length text) (length b)) (text ++ drop (length text) b) b ≡ b
-ended-left d e text b h = go (leb (length text) (length b)) refl
-  where
-    go : (fits : Bool) → leb (length text) (length b) ≡ fits → 2 ^ 32 ≤ outcomeNumber (ended (length text) d e fits .outcome)
-        → cond fits (text ++ drop (length text) b) b ≡ b
-    go true q g = absurd (omega (arith, leb-true (length text) (length b) q, h, g))
-    go false q g = refl
-
-buffer-left : (d : Device) (b : List ℕ) (o : Read) → length b < 2 ^ 32 → 2 ^ 32 ≤ outcomeNumber (ranBy d (length b) o .outcome) → bufferBy d b o ≡ b
-unfolding ranBy bufferBy
-buffer-left d b (Events es) h g = ended-left d (Runs.ranOf d es) (textOf (Runs.answersOf d es)) b h g
-buffer-left d b (Stopped why n) h g = refl
-
 pub left-answers : (s : State) (log b : List ℕ) → length b < 2 ^ 32 → 2 ^ 32 ≤ ranOf s log (length b) .number → bufferOf (deviceOf s) log b ≡ b
-unfolding ranOf runOf bufferOf
-left-answers s log b = buffer-left (deviceOf s) b (readOf log)
+unfolding ranOf
+left-answers s log b h g = go (runOf (deviceOf s) log (length b) .outcome) refl
+  where
+    go : (o : Outcome) → runOf (deviceOf s) log (length b) .outcome ≡ o → bufferOf (deviceOf s) log b ≡ b
+    go (Outcomes.Done size) q = absurd (omega (arith, rw q at (run-fits (deviceOf s) log (length b) h), rw q at g))
+    go (Outcomes.Refused why n) q = run-untouched (deviceOf s) log b why n q .left
