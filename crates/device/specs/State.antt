@@ -1,4 +1,4 @@
--- Devices made from a device: a new field of Device passes through these definitions and no others.
+-- Devices made from a device, and a device by its memory and its bus: a new field of Device passes through these definitions.
 use Prim.Native.Nat.{ℕ}
 use mathlib.Core.Bool.{Bool, false}
 use mathlib.Core.List.{List}
@@ -26,10 +26,6 @@ withMemory d m = record { memory = m; phase = d .phase; pointer = d .pointer; pa
 abbrev pub withBusy : Device → Bool → Device
 withBusy d busy = record { memory = d .memory; phase = d .phase; pointer = d .pointer; page = d .page; busy = busy }
 
--- what a power cycle leaves, over its memory: pointer 00h, idle, no held page, not busy
-abbrev pub atRest : Memory → Device
-atRest m = record { memory = m; phase = Idle; pointer = 0x00; page = noPage; busy = false }
-
 abbrev pub answered : Device → Answer → Stepped
 answered d r = record { device = d; answer = r }
 
@@ -40,9 +36,12 @@ deviceIn m b = record { memory = m; phase = b .phase; pointer = b .pointer; page
 abbrev pub busOf : Device → BusState
 busOf d = record { phase = d .phase; pointer = d .pointer; page = d .page; busy = d .busy }
 
--- the bus of a device at rest
+-- what a power cycle leaves, over its memory: pointer 00h, idle, no held page, not busy
 abbrev pub busAtRest : BusState
 busAtRest = record { phase = Idle; pointer = 0x00; page = noPage; busy = false }
+
+abbrev pub atRest : Memory → Device
+atRest m = deviceIn m busAtRest
 
 -- another phase, pointer and held page on a bus
 abbrev pub busWith : BusState → Phase → ℕ → List ℕ → BusState

@@ -16,7 +16,7 @@ use Rattle.log.specs.Run.{runOf}
 use Rattle.log.proofs.Secrecy.{run-secrecy}
 use Rattle.host.specs.State.{deviceOf}
 use Rattle.host.specs.Numbers.{replyNumber, outcomeNumber}
-use Rattle.host.specs.Calls.{appliedOf, ranOf, levelIn, byteIn}
+use Rattle.host.specs.Calls.{applyCall, runCall, levelAt, byteAt}
 use Rattle.host.specs.Secrecy.{stateAfter, numbersOf, HostSecrecy, HostRunSecrecy}
 use Rattle.host.specs.declared.State.{State}
 use Rattle.host.proofs.After.{kept-apply, kept-run}
@@ -24,10 +24,10 @@ use Rattle.host.proofs.After.{kept-apply, kept-run}
 device-after : (rs : List Raw) (s : State) → deviceOf (stateAfter s rs) ≡ afterOf (deviceOf s) rs
 unfolding stateAfter afterOf
 device-after [] s = refl
-device-after (r ∷ rs) s = device-after rs (appliedOf s r .state) ∙ ap (λ (d : Device). afterOf d rs) (kept-apply s r)
+device-after (r ∷ rs) s = device-after rs (applyCall s r .state) ∙ ap (λ (d : Device). afterOf d rs) (kept-apply s r)
 
-number-of : (s : State) (r : Raw) → appliedOf s r .number ≡ replyNumber (applyOf (deviceOf s) r .reply)
-unfolding appliedOf
+number-of : (s : State) (r : Raw) → applyCall s r .number ≡ replyNumber (applyOf (deviceOf s) r .reply)
+unfolding applyCall
 number-of s r = refl
 
 numbers-of : (rs : List Raw) (s : State) → numbersOf s rs ≡ map replyNumber (repliesOf (deviceOf s) rs)
@@ -35,7 +35,7 @@ unfolding numbersOf repliesOf
 numbers-of [] s = refl
 numbers-of (r ∷ rs) s =
     ap₂ {C = List ℕ} (λ n ns. n ∷ ns) (number-of s r)
-    (numbers-of rs (appliedOf s r .state) ∙ ap (λ (d : Device). map replyNumber (repliesOf d rs)) (kept-apply s r))
+    (numbers-of rs (applyCall s r .state) ∙ ap (λ (d : Device). map replyNumber (repliesOf d rs)) (kept-apply s r))
 
 pub host-secrecy : HostSecrecy
 host-secrecy a b rs ra rb q s =
@@ -47,8 +47,8 @@ host-secrecy a b rs ra rb q s =
       kept-b = λ n. rw (device-after (take n rs) b) (f .kept-b n);
     }
 
-run-number : (s : State) (log : List ℕ) (room : ℕ) → ranOf s log room .number ≡ outcomeNumber (runOf (deviceOf s) log room .outcome)
-unfolding ranOf
+run-number : (s : State) (log : List ℕ) (room : ℕ) → runCall s log room .number ≡ outcomeNumber (runOf (deviceOf s) log room .outcome)
+unfolding runCall
 run-number s log room = refl
 
 pub host-run-secrecy : HostRunSecrecy
@@ -62,6 +62,6 @@ host-run-secrecy a b log buffer ra rb q s =
     }
 
 -- ds1852_level and ds1852_read tell a stranger level 0 and the bytes of the public list
-pub host-reads : (s : State) (a : ℕ) → Stranger (deviceOf s) → (levelIn s ≡ 0) × (byteIn s a ≡ publicByte (s .lower) a)
+pub host-reads : (s : State) (a : ℕ) → Stranger (deviceOf s) → (levelAt s ≡ 0) × (byteAt s a ≡ publicByte (s .lower) a)
 unfolding deviceOf
 host-reads s a h = (level0 (deviceOf s) h, stranger-reads (deviceOf s) a h)

@@ -18,9 +18,10 @@ use memory::Refusal;
 use memory::Verdict;
 ghost use mathlib.Core.Path.{_≡_};
 ghost use lib.ListN.{length};
+ghost use Rattle.memory.specs.declared.Refusal.the-variants.{OutsideRange};
 ghost use Rattle.log.specs.Run.{bufferOf};
 ghost use Rattle.host.specs.State.{deviceOf};
-ghost use Rattle.host.specs.Calls.{rawOf, afterVerdict, outsideRange, startedOf, appliedOf, ranOf, levelIn, byteIn};
+ghost use Rattle.host.specs.Calls.{rawWith, afterVerdict, refusedCall, startCall, applyCall, runCall, levelAt, byteAt};
 
 fn after_verdict(s: State, d: Device, verdict: Verdict) -> State
     ensures { λ r. ⌜ r ≡ afterVerdict s d verdict ⌝ }
@@ -33,7 +34,7 @@ fn after_verdict(s: State, d: Device, verdict: Verdict) -> State
 
 // 13: the state stays.
 fn outside_range(s: State) -> Called
-    ensures { λ r. ⌜ r ≡ outsideRange s ⌝ }
+    ensures { λ r. ⌜ r ≡ refusedCall s OutsideRange ⌝ }
 {
     Called {
         state: s,
@@ -43,7 +44,7 @@ fn outside_range(s: State) -> Called
 
 // A start from an image.
 pub fn started(s: State, image: &[u8]) -> Called
-    ensures { λ r. ⌜ r ≡ startedOf s (now (image .entry)) ⌝ }
+    ensures { λ r. ⌜ r ≡ startCall s (now (image .entry)) ⌝ }
 {
     let started = device::start(image);
     let verdict = started.verdict;
@@ -56,7 +57,7 @@ pub fn started(s: State, image: &[u8]) -> Called
 
 // A single event, over the parts of a copy of the state.
 pub fn applied(s: State, letter: u16, channel: u16, value: u16) -> Called
-    ensures { λ r. ⌜ r ≡ appliedOf s (rawOf letter channel value) ⌝ }
+    ensures { λ r. ⌜ r ≡ applyCall s (rawWith letter channel value) ⌝ }
 {
     let raw = Raw {
         letter,
@@ -93,7 +94,7 @@ pub fn applied(s: State, letter: u16, channel: u16, value: u16) -> Called
 
 // A log, over the parts of a copy of the state.
 pub fn ran(s: State, log: &[u8], answers: &mut [u8]) -> LogRun
-    ensures { λ r. ⌜ (r ≡ ranOf s (now (log .entry)) (length (now (answers .entry)))) × (now (answers .exit) ≡ bufferOf (deviceOf s) (now (log .entry)) (now (answers .entry))) ⌝ }
+    ensures { λ r. ⌜ (r ≡ runCall s (now (log .entry)) (length (now (answers .entry)))) × (now (answers .exit) ≡ bufferOf (deviceOf s) (now (log .entry)) (now (answers .entry))) ⌝ }
 {
     let mut lower = s.lower;
     let mut table1 = s.table1;
@@ -127,7 +128,7 @@ pub fn ran(s: State, log: &[u8], answers: &mut [u8]) -> LogRun
 }
 
 pub fn level_of(s: State) -> u32
-    ensures { λ r. ⌜ r ≡ levelIn s ⌝ }
+    ensures { λ r. ⌜ r ≡ levelAt s ⌝ }
 {
     let device = device_of(s);
     let memory = device.memory;
@@ -136,7 +137,7 @@ pub fn level_of(s: State) -> u32
 
 // The byte that an address reads.
 pub fn byte_at(s: State, address: u8) -> u32
-    ensures { λ r. ⌜ r ≡ byteIn s address ⌝ }
+    ensures { λ r. ⌜ r ≡ byteAt s address ⌝ }
 {
     let device = device_of(s);
     let memory = device.memory;

@@ -4,7 +4,7 @@ mod access; // level, access class, read, writable
 mod closed; // the closed bytes
 mod image; // start from an image
 mod page; // a held page, stored at a stop
-mod power; // power cycle and pins
+mod power; // power cycle
 mod refusals; // the numbers of the refusals
 
 pub use access::class_of;

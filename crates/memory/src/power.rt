@@ -1,4 +1,4 @@
-// Power cycle and pins, in the memory.
+// Power cycle, in the memory.
 use super::Memory;
 ghost use mathlib.Core.Path.{_≡_};
 ghost use Prim.Native.Nat.{_+_, _≤_};
