@@ -1,5 +1,5 @@
-// The list of every byte: which levels read it, which can write it, and whether it is closed. Nothing of the list is typed in:
-// each cell is what the proved functions give for memories of that level.
+// The list of every byte: which levels read it, which can write it, and whether it is closed. Each cell is what the proved functions
+// give for memories of that level, but for password 2: that nobody writes it is a theorem (`password2-kept`), that it is closed a definition.
 use libc::STDOUT_FILENO;
 use memory::Memory;
 
@@ -128,11 +128,20 @@ fn table(select: u8) {
     }
 }
 
-// Whether a select gives no byte of the upper half to read or to write, at the highest level.
+// Whether a level reads or writes an address, with bits 5 and 1 of E8h set.
+fn reaches(level: u8, select: u8, address: u8) -> bool {
+    reads(level, select, address) | writes(level, select, 0x22, address)
+}
+
+fn reached(select: u8, address: u8) -> bool {
+    reaches(0, select, address) | reaches(1, select, address) | reaches(2, select, address)
+}
+
+// Whether a select gives no byte of the upper half to read or to write, at any level.
 fn has_no_memory(select: u8) -> bool {
     let mut none = true;
     for a in 0x80..=0xFFu8 {
-        none = none & !reads(2, select, a) & !writes(2, select, 0x22, a);
+        none = none & !reached(select, a);
     }
     none
 }
@@ -152,7 +161,7 @@ fn absent_selects() {
     }
 }
 
-// Whether no address of a half reads otherwise when only password 2 is another, and the level stays.
+// Whether no address reads otherwise when only password 2 is another, and the level stays.
 fn password2_unread(level: u8, select: u8) -> bool {
     let m = filled(level, select, 0x5A, 0x5A);
     let mut n = m;
@@ -170,8 +179,8 @@ fn password2_unread(level: u8, select: u8) -> bool {
     same
 }
 
-// Password 2 has no address: no read shows it. (That no event changes it is a theorem.)
-fn password2(level: u8) -> bool {
+// Whether no read of any table shows password 2 at a level.
+fn password2_hidden(level: u8) -> bool {
     password2_unread(level, 0)
         & password2_unread(level, 1)
         & password2_unread(level, 2)
@@ -180,9 +189,9 @@ fn password2(level: u8) -> bool {
 
 fn password2_row() {
     say(b"password 2,no address,");
-    mark(!password2(0), 0);
-    mark(!password2(1), 1);
-    mark(!password2(2), 2);
+    mark(!password2_hidden(0), 0);
+    mark(!password2_hidden(1), 1);
+    mark(!password2_hidden(2), 2);
     say(b",---,---,---,closed\n");
 }
 
