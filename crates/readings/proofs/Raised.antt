@@ -1,7 +1,7 @@
 -- How the number of raised flags goes with the bytes.
 -- Assumes nothing.
 use Prim.Native.Nat.{ℕ, zero, suc, _+_, _-_, _*_, _/_, _%_, _^_, _≤_, _<_}
-use mathlib.Core.Path.{_≡_, refl, ap₂, _∙_}
+use mathlib.Core.Path.{_≡_, refl, ap, ap₂, _∙_}
 use mathlib.Core.Logic.{⊎-elim}
 use mathlib.Core.Bool.{Bool}
 use mathlib.Core.List.{List, []}
@@ -65,9 +65,9 @@ pub after-same : (n : ℕ) (x y : List ℕ) → n < 256 → raisedIn y ≡ raise
 unfolding raisedAfter
 after-same n x y h e = rw e (omega (arith, raised-le x))
 
-pub after-from : (n : ℕ) (x y z : List ℕ) → raisedIn x ≡ raisedIn y → raisedAfter n x z ≡ raisedAfter n y z
+pub after-from : (n k : ℕ) (x y z : List ℕ) → raisedIn x ≡ raisedIn y → k ≡ raisedAfter n x z → k ≡ raisedAfter n y z
 unfolding raisedAfter
-after-from n x y z e = rw e
+after-from n k x y z e f = rw (← e) f
 
 -- a reading is stored below the flags
 pub stored-raised : (b : List ℕ) (k x : ℕ) → k < 5 → raisedIn (storedReading b k x) ≡ raisedIn b
@@ -79,9 +79,12 @@ stored-raised b k x h =
     ∙ getD-set-other b (0x60 + 2 * k) p (x / 256) 0 (λ z. omega arith))
 
 -- one change after another
-pub after-then : (n : ℕ) (x y z : List ℕ) → raisedAfter (raisedAfter n x y) y z ≡ raisedAfter n x z
+after-then : (n : ℕ) (x y z : List ℕ) → raisedAfter (raisedAfter n x y) y z ≡ raisedAfter n x z
 unfolding raisedAfter
 after-then n x y z = omega (arith, raised-le x, raised-le y, raised-le z)
+
+pub after-both : (n m : ℕ) (x y z : List ℕ) (k : ℕ) → m ≡ raisedAfter n x y → k ≡ raisedAfter m y z → k ≡ raisedAfter n x z
+after-both n m x y z k e f = f ∙ ap (λ (i : ℕ). raisedAfter i y z) e ∙ after-then n x y z
 
 -- ---- a field of one or two bits
 

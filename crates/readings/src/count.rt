@@ -56,7 +56,7 @@ fn ones_at(bytes: &[u8], i: usize, n: usize, width: usize) -> u8
 pub fn put_flags(bytes: &mut Bytes, raised: u8, i: usize, n: usize, width: usize, f: u8) -> u8
     requires { ⌜ (0x70 ≤ i) × ((i < 0x78) × ((1 ≤ width) × ((width ≤ 2) × ((n + width ≤ 8) × (f < 2 ^ width))))) ⌝ }
     ensures { λ r. ⌜ (now (bytes .exit) ≡ putField (now (bytes .entry)) i n width f)
-        × (r ≡ raisedAfter raised (now (bytes .entry)) (putField (now (bytes .entry)) i n width f)) ⌝ }
+        × (r ≡ raisedAfter raised (now (bytes .entry)) (now (bytes .exit))) ⌝ }
 {
     let cleared = ones_at(bytes, i, n, width);
     put_field(bytes, i, n, width, f);

@@ -1,5 +1,5 @@
 -- `store_held`: a page in another block leaves the flags, and one in 70h to 77h is counted before and after. Assumes nothing.
-use mathlib.Core.Path.{refl, sym}
+use mathlib.Core.Path.{sym}
 use Prim.Native.Nat.{_*_, _/_}
 use native.Mathlib.Omega.{arith}
 use borrow.Author.Needs.{needs}
@@ -25,14 +25,15 @@ returns c =
     (λ p lo hi.
     outside-block l (controlOf b) (selectOf b) base (mask .result) (i .page) b p (omega arith)
     (λ k h e. c .before .before .if1 .taken (omega arith))) in
-    rw (← mask .ensures) (c .store-page .ensures, sym (after-same (i .raised) b stored (omega arith) same))
+    let page = c .store-page .ensures in
+    (rw (← mask .ensures) page, rw page (sym (after-same (i .raised) b stored (omega arith) same)))
 
 returns-2 : tie.Need-returns-2
 unfolding raisedAfter
-returns-2 c =
-    let page = c .before .before .before .store-page2 in
-    rw (← c .before .before .before .before .before .before .before .before .held .ensures, ← page .ensures, ← c .before .before .before .before .before .raised-in .ensures, ← c .before .raised-in2 .ensures)
-    (refl, c .go-on .ensures)
+returns-2 c = (
+  rw (← c .before .before .before .before .before .before .before .before .held .ensures) (c .before .before .before .store-page2 .ensures),
+  rw (← c .before .before .before .before .before .raised-in .ensures, ← c .before .raised-in2 .ensures) (c .go-on .ensures),
+)
 
 pub store-held-spec : {M : Type 1} → statement M
 store-held-spec =

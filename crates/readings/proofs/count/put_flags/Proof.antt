@@ -1,5 +1,5 @@
 -- `put_flags`: the field is put, and the number goes on by its 1 bits. Assumes nothing.
-use mathlib.Core.Path.{_≡_, _∙_}
+use mathlib.Core.Path.{_≡_}
 use Prim.Native.Nat.{_^_, _≤_}
 use native.Mathlib.Omega.{arith}
 use lib.ListN.{length}
@@ -14,13 +14,14 @@ returns c =
     let s = c .before .before .before .before .before .before in
     let a = s .args in
     let p = s .pre in
+    let put = c .before .put-field .ensures in
     let cleared = c .before .before .before .ones-at .ensures in
     let size : length (a .bytes .now) ≡ 512 = search needs in
-    let k : 2 ^ (a .width) ≤ 2 ^ 2 = pow-mono {j = 2} (p .1 .1 .1 .0) in (
-      c .before .put-field .ensures,
-      (rw (cleared .0, ← ones-two (a .f) (omega arith)) at (c .go-on .ensures))
-          ∙ after-field (a .raised) (a .i) (a .width) (a .n) (a .f) (a .bytes .now) (p .0) (p .1 .0) (omega arith) (p .1 .1 .0) (p .1 .1 .1 .0) (p .1 .1 .1 .1 .0) (cleared .1) (p .1 .1 .1 .1 .1),
-    )
+    let k : 2 ^ (a .width) ≤ 2 ^ 2 = pow-mono {j = 2} (p .1 .1 .1 .0) in
+    let on =
+    after-field (a .raised) (a .i) (a .width) (a .n) (a .f) (a .bytes .now) (p .0) (p .1 .0) (omega arith) (p .1 .1 .0) (p .1 .1 .1 .0)
+    (p .1 .1 .1 .1 .0) (cleared .1) (p .1 .1 .1 .1 .1) in
+    (put, rw (put, c .go-on .ensures, cleared .0, ← ones-two (a .f) (omega arith)) on)
 
 pub put-flags-spec : {M : Type 1} → statement M
 put-flags-spec =
