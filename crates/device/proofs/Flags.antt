@@ -14,14 +14,14 @@ use Rattle.memory.specs.declared.Verdict.the-variants.{Accepted}
 use Rattle.readings.specs.Readings.{flaggedOf, sampledOf, fastOf}
 use Rattle.readings.specs.Raised.{onesOf, raisedFrom, raisedIn, raisedAfter}
 use Rattle.readings.proofs.Raised.{raised-le}
-use Rattle.device.specs.Bus.{addressOf, holding, restOf, startedOf, listenedOf, gatheredOf, stoppedAt}
 use Rattle.letters.specs.Letters.{decodeOf}
+use Rattle.letters.specs.declared.Raw.{Raw}
+use Rattle.device.specs.Bus.{addressOf, holding, restOf, startedOf, listenedOf, gatheredOf, stoppedAt}
 use Rattle.device.specs.Calls.{startOf, applyOf}
 use Rattle.device.specs.Run.{afterOf}
 use Rattle.device.specs.Told.{flagsUp}
 use Rattle.device.specs.Secrecy.{Alike, Stranger, Reached, fresh}
 use Rattle.device.specs.declared.Device.{Device}
-use Rattle.letters.specs.declared.Raw.{Raw}
 use Rattle.device.specs.declared.Reply.the-variants.{Refused}
 use Rattle.device.proofs.Rulings.{refused-left}
 use Rattle.device.proofs.Runs.{reached-after}

@@ -13,7 +13,7 @@ use lib.Seq.{getD-set-same, getD-set-other}
 use Rattle.memory.specs.Bytes.{fieldOf, putField}
 use Rattle.memory.proofs.Range.{every, at}
 use Rattle.readings.specs.Readings.{storedReading}
-use Rattle.readings.specs.Raised.{onesOf, raisedFrom, raisedIn, raisedAfter}
+use Rattle.readings.specs.Raised.{onesOf, raisedFrom, raisedIn, goneOn, raisedAfter}
 
 ones-le : (x : ℕ) → onesOf x ≤ 8
 unfolding onesOf
@@ -112,7 +112,7 @@ field-ones width n x f low high fits hx hf =
 -- and so does the number of raised flags
 pub after-field : (m i width n f : ℕ) (b : List ℕ) → 0x70 ≤ i → i < 0x78 → 0x78 ≤ length b
     → 1 ≤ width → width ≤ 2 → n + width ≤ 8 → getD b i 0 < 256 → f < 2 ^ width
-    → (m + 256 + onesOf f - onesOf (getD b i 0 / 2 ^ n % 2 ^ width)) % 256 ≡ raisedAfter m b (putField b i n width f)
+    → goneOn m (onesOf f) (onesOf (getD b i 0 / 2 ^ n % 2 ^ width)) ≡ raisedAfter m b (putField b i n width f)
 unfolding raisedAfter
 after-field m i width n f b h g size low high fits hx hf =
     let x = getD b i 0 in

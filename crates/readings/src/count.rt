@@ -3,10 +3,10 @@ use super::bytes::power;
 use super::bytes::put_field;
 use memory::Bytes;
 ghost use mathlib.Core.Path.{_≡_};
-ghost use Prim.Native.Nat.{_+_, _-_, _/_, _%_, _^_, _<_, _≤_};
+ghost use Prim.Native.Nat.{_+_, _/_, _%_, _^_, _<_, _≤_};
 ghost use lib.ListN.{length, getD};
 ghost use Rattle.memory.specs.Bytes.{putField};
-ghost use Rattle.readings.specs.Raised.{onesOf, raisedIn, raisedAfter};
+ghost use Rattle.readings.specs.Raised.{onesOf, raisedIn, goneOn, raisedAfter};
 
 // The 1 bits of a byte.
 fn ones(x: u8) -> u8
@@ -28,9 +28,9 @@ pub fn raised_in(bytes: &Bytes) -> u8
     count
 }
 
-// A number of raised flags that goes on by the flags that were raised, less those that were cleared: modulo 256.
+// A number of raised flags that goes on.
 pub fn go_on(n: u8, raised: u8, cleared: u8) -> u8
-    ensures { λ r. ⌜ r ≡ (n + 256 + raised - cleared) % 256 ⌝ }
+    ensures { λ r. ⌜ r ≡ goneOn n raised cleared ⌝ }
 {
     ((n as u16 + 256 + raised as u16 - cleared as u16) % 256) as u8
 }
