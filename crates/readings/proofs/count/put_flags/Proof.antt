@@ -1,5 +1,5 @@
 -- `put_flags`: the field is put, and the number goes on by its 1 bits. Assumes nothing.
-use mathlib.Core.Path.{_≡_}
+use mathlib.Core.Path.{_≡_, _∙_}
 use Prim.Native.Nat.{_^_, _≤_}
 use native.Mathlib.Omega.{arith}
 use lib.ListN.{length}
@@ -21,7 +21,7 @@ returns c =
     let on =
     after-field (a .raised) (a .i) (a .width) (a .n) (a .f) (a .bytes .now) (p .0) (p .1 .0) (omega arith) (p .1 .1 .0) (p .1 .1 .1 .0)
     (p .1 .1 .1 .1 .0) (cleared .1) (p .1 .1 .1 .1 .1) in
-    (put, rw (put, c .go-on .ensures, cleared .0, ← ones-two (a .f) (omega arith)) on)
+    (put, c .go-on .ensures ∙ rw put (rw (← cleared .0, ones-two (a .f) (omega arith)) at on))
 
 pub put-flags-spec : {M : Type 1} → statement M
 put-flags-spec =
