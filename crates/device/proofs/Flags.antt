@@ -68,7 +68,8 @@ page =
     ++ write 0xE8 (0x24 ∷ []) ++ (E ∷ W ∷ [])
     ++ write 0x76 (0x81 ∷ 0x3F ∷ []) ++ (E ∷ [])
 
--- T above and below its limits, and at them; B's fast flag raised and cleared; the page beside T's flags, then C
+-- V's low alarm alone; beside it T above and below its limits, and at them; B's fast flag raised and cleared; the page beside T's
+-- flags; then C
 abbrev told : List (List Raw)
 told =
     []
@@ -81,6 +82,6 @@ told =
     ∷ (A 0 0x1900 ∷ page ++ (C ∷ []))
     ∷ []
 
-pub flags-worked : map (λ (rs : List Raw). flagsUp (afterOf device rs)) told ≡ 0 ∷ 2 ∷ 2 ∷ 0 ∷ 3 ∷ 2 ∷ 10 ∷ 0 ∷ []
+pub flags-worked : map (λ (rs : List Raw). flagsUp (afterOf device rs)) told ≡ 1 ∷ 3 ∷ 3 ∷ 1 ∷ 4 ∷ 3 ∷ 11 ∷ 1 ∷ []
 unfolding onesOf raisedFrom raisedAfter flaggedOf sampledOf fastOf placeOf levelOf classOf writableAt storeOf pageOf cycledBytes imageBytes imageMemory verdictOf loadOf addressOf holding restOf startedOf listenedOf gatheredOf stoppedAt decodeOf startOf applyOf afterOf
 flags-worked = refl

@@ -4,7 +4,7 @@ use Prim.Native.Nat.{ℕ, zero, suc, _+_, _-_, _*_, _/_, _%_, _^_, _≤_, _<_}
 use mathlib.Core.Path.{_≡_, refl, ap, ap₂, _∙_}
 use mathlib.Core.Logic.{⊎-elim}
 use mathlib.Core.Bool.{Bool}
-use mathlib.Core.List.{List, []}
+use mathlib.Core.List.{List}
 use native.Mathlib.Nat.{eq-zero-or-pos}
 use native.Mathlib.Omega.{arith}
 use lib.Dec.{T, eqb, eqb→eq}
@@ -12,8 +12,10 @@ use lib.ListN.{length, getD, set}
 use lib.Seq.{getD-set-same, getD-set-other}
 use Rattle.memory.specs.Bytes.{fieldOf, putField}
 use Rattle.memory.proofs.Range.{every, at}
+use Rattle.memory.proofs.Cycle.{AlarmOnly}
 use Rattle.readings.specs.Readings.{storedReading}
 use Rattle.readings.specs.Raised.{onesOf, raisedFrom, raisedIn, goneOn, raisedAfter}
+use Rattle.readings.proofs.Places.{stored-other}
 
 ones-le : (x : ℕ) → onesOf x ≤ 8
 unfolding onesOf
@@ -37,10 +39,17 @@ from-same (suc n) x y h = ap₂ _+_ (from-same n x y (λ k g. h k (omega arith))
 pub raised-same : (x y : List ℕ) → ((p : ℕ) → 0x70 ≤ p → p < 0x78 → getD x p 0 ≡ getD y p 0) → raisedIn x ≡ raisedIn y
 raised-same x y h = from-same 8 x y (λ k g. h (0x70 + k) (omega arith) (omega arith))
 
--- and lines without a 1 bit there have none
-pub raised-none : (b : List ℕ) → ((p : ℕ) → 0x70 ≤ p → p < 0x78 → getD b p 0 ≡ 0) → raisedIn b ≡ 0
+-- and lines without a 1 bit behind 70h have those of 70h
+from-first : (n : ℕ) (b : List ℕ) → ((p : ℕ) → 0x71 ≤ p → p < 0x71 + n → getD b p 0 ≡ 0) → raisedFrom (suc n) b ≡ onesOf (getD b 0x70 0)
 unfolding raisedFrom onesOf
-raised-none b h = raised-same b [] h
+from-first zero b h = omega arith
+from-first (suc n) b h =
+    rw (h (0x70 + suc n) (omega arith) (omega arith)) (omega (arith, from-first n b (λ p lo hi. h p lo (omega arith))))
+
+-- so one flag is up after C
+pub raised-alarm : (b : List ℕ) → AlarmOnly b → raisedIn b ≡ 1
+unfolding onesOf
+raised-alarm b h = from-first 7 b (λ p lo hi. h .rest p lo hi) ∙ rw (h .alarm)
 
 -- lines that agree but for one byte of these differ by its 1 bits
 from-one : (n i : ℕ) (x y : List ℕ) → i < n → ((p : ℕ) → (p ≡ 0x70 + i → ⊥) → getD x p 0 ≡ getD y p 0)
@@ -69,14 +78,9 @@ pub after-from : (n k : ℕ) (x y z : List ℕ) → raisedIn x ≡ raisedIn y �
 unfolding raisedAfter
 after-from n k x y z e f = rw (← e) f
 
--- a reading is stored below the flags
+-- a reading that is stored moves no flag
 pub stored-raised : (b : List ℕ) (k x : ℕ) → k < 5 → raisedIn (storedReading b k x) ≡ raisedIn b
-stored-raised b k x h =
-    raised-same (storedReading b k x) b
-    (λ p lo hi.
-    getD-set-other (set (set b (0x60 + 2 * k) (x / 256)) (0x61 + 2 * k) (x % 256)) 0x6F p _ 0 (λ z. omega arith)
-    ∙ getD-set-other (set b (0x60 + 2 * k) (x / 256)) (0x61 + 2 * k) p (x % 256) 0 (λ z. omega arith)
-    ∙ getD-set-other b (0x60 + 2 * k) p (x / 256) 0 (λ z. omega arith))
+stored-raised b k x h = raised-same (storedReading b k x) b (λ p lo hi. stored-other b k x p (omega arith) lo)
 
 -- one change after another
 after-then : (n : ℕ) (x y z : List ℕ) → raisedAfter (raisedAfter n x y) y z ≡ raisedAfter n x z
