@@ -27,7 +27,7 @@ use Rattle.device.proofs.Rulings.{refused-left}
 use Rattle.device.proofs.Runs.{reached-after}
 use Rattle.device.proofs.Secrecy.{secrecy}
 use Rattle.device.proofs.Sound.{reached-sound}
-use Rattle.device.proofs.Traffic.{E, W, C, A, F, write, imageWith}
+use Rattle.device.proofs.Traffic.{E, C, A, F, write, writeControl, masterImage}
 
 -- of every reached device
 pub flags-true : (d : Device) → Reached d → flagsUp d ≡ raisedIn (d .memory .bytes)
@@ -59,14 +59,11 @@ flags-secret a b rs ra rb q s n = flags-alike _ _ (secrecy a b rs ra rb q s .ali
 
 -- level 2 after the start, all limits and trips 0
 abbrev device : Device
-device = startOf (imageWith 0xA2 0 (0 ∷ 0 ∷ 0 ∷ 0 ∷ []) (0xFF ∷ 0xFF ∷ 0xFF ∷ 0xFF ∷ [])) .device
+device = startOf (masterImage 0xA2) .device
 
--- table 03h selected, E8h bit 5 set beside bit 2, and eight 1 bits written to 76h and 77h
+-- E8h bit 5 set beside bit 2, and eight 1 bits written to 76h and 77h
 abbrev page : List Raw
-page =
-    write 0x7F (3 ∷ []) ++ (E ∷ [])
-    ++ write 0xE8 (0x24 ∷ []) ++ (E ∷ W ∷ [])
-    ++ write 0x76 (0x81 ∷ 0x3F ∷ []) ++ (E ∷ [])
+page = writeControl 0x24 ++ write 0x76 (0x81 ∷ 0x3F ∷ []) ++ (E ∷ [])
 
 -- V's low alarm alone; beside it T above and below its limits, and at them; B's fast flag raised and cleared; the page beside T's
 -- flags; then C

@@ -1,25 +1,22 @@
 -- Document 02, 2.2: from C, and so from a start, bit 4 of 70h is 1 up to the first event that measures the supply.
 -- Assumes nothing.
 use Prim.Native.Nat.{ℕ, zero, suc, _*_, _/_, _≤_, _<_}
-use mathlib.Core.Path.{_≡_, refl, sym, ap, _∙_}
+use mathlib.Core.Path.{_≡_, refl, _∙_}
 use mathlib.Core.Bool.{Bool, true, false, cond}
 use mathlib.Core.List.{List, [], _∷_}
 use native.Mathlib.Omega.{arith}
 use lib.Dec.{ltb}
-use lib.ListN.{length, take, length-set}
+use lib.ListN.{length, take}
 use lib.Seq.{take-nil}
 use borrow.Author.Tests.{eq-eqb, ltb-true, ltb-false}
-use Rattle.memory.specs.Bytes.{bitOf}
 use Rattle.memory.specs.Access.{places, selectOf, controlOf, levelIn}
 use Rattle.memory.specs.Page.{pageOf}
-use Rattle.memory.specs.Power.{cycledBytes}
 use Rattle.memory.proofs.Bools.{clash}
 use Rattle.memory.proofs.Cycle.{cycled-flags, loaded-flags}
 use Rattle.memory.proofs.Stored.{not-stored}
-use Rattle.memory.proofs.Whole.{page-length, cycled-length, whole-loaded}
+use Rattle.memory.proofs.Whole.{cycled-length, whole-loaded}
 use Rattle.readings.specs.Measured.{supplyAlarm}
-use Rattle.readings.proofs.Measured.{same-alarm, other-alarm, sampled-alarm, fast-alarm}
-use Rattle.readings.proofs.Places.{sampled-length, fast-length}
+use Rattle.readings.proofs.Measured.{same-alarm, other-alarm, only-alarm, sampled-alarm, fast-alarm}
 use Rattle.letters.specs.Letters.{pinByte, decodeOf}
 use Rattle.letters.specs.declared.Event.{Event}
 use Rattle.letters.specs.declared.Event.the-variants.{Start, Stop, Byte, Read, WriteDone, PowerCycle, PinsSet, Sample, FastSample}
@@ -34,7 +31,7 @@ use Rattle.device.specs.Told.{flagsUp}
 use Rattle.device.specs.Secrecy.{Reached}
 use Rattle.device.specs.Measured.{stopMeasures, measures, measuredBy, beforeMeasured, Cycled, by-start, by-cycle, UpUntilMeasured}
 use Rattle.device.specs.declared.Device.{Device}
-use Rattle.device.proofs.Steps.{byte-memory, clock-memory}
+use Rattle.device.proofs.Steps.{byte-memory, clock-memory, step-length}
 use Rattle.device.proofs.Sound.{reached-sound}
 use Rattle.device.proofs.Traffic.{C}
 
@@ -45,50 +42,35 @@ record Up (b : List ℕ) : Type 0 where
   size : length b ≡ places
   alarm : supplyAlarm b ≡ true
 
-kept : (x y : List ℕ) → length y ≡ length x → supplyAlarm y ≡ supplyAlarm x → Up x → Up y
-kept x y e f u = record { size = e ∙ u .size; alarm = f ∙ u .alarm }
-
-cycled-up : (b : List ℕ) → length b ≡ places → Up (cycledBytes b)
-cycled-up b h = record { size = cycled-length b ∙ h; alarm = ap (bitOf 4) (cycled-flags b (omega arith) .alarm) }
-
--- a stop that does not store 70h leaves it: the place of the block that would be stored there is place 0
-stop-up : (d : Device) → stopMeasures d ≡ false → Up (d .memory .bytes) → Up (stoppedAt (levelIn (d .memory)) d .memory .bytes)
+-- a stop that does not store 70h leaves it: of the places of a block, the one that 70h can be is place 0
+stop-alarm : (d : Device) → stopMeasures d ≡ false → supplyAlarm (stoppedAt (levelIn (d .memory)) d .memory .bytes) ≡ supplyAlarm (d .memory .bytes)
 unfolding stoppedAt
-stop-up d f u =
+stop-alarm d f =
     let b = d .memory .bytes in
     let l = levelIn (d .memory) in
     let base = d .pointer / 8 * 8 in
     let mask = heldOf (d .phase) in
-    let after = pageOf l (controlOf b) (selectOf b) base mask (d .page) 8 b in
-    kept b after (page-length l (controlOf b) (selectOf b) base mask (d .page) 8 b)
-    (same-alarm after b
+    same-alarm (pageOf l (controlOf b) (selectOf b) base mask (d .page) 8 b) b
     (not-stored l (controlOf b) (selectOf b) base mask (d .page) b 0x70 (omega arith)
     (λ k h e q.
     let first : k ≡ 0 = omega arith in
     let block : base ≡ 0x70 = omega arith in
-    clash (stopMeasures d) (rw (eq-eqb base 0x70 block) (rw (sym q, first) at e)) f)))
-    u
+    clash (stopMeasures d) (rw (eq-eqb base 0x70 block) (rw first at e)) f))
 
-step-up : (d : Device) (e : Event) → measures d e ≡ false → Up (d .memory .bytes) → Up (stepOf d e .device .memory .bytes)
+step-alarm : (d : Device) (e : Event) → measures d e ≡ false → Up (d .memory .bytes) → supplyAlarm (stepOf d e .device .memory .bytes) ≡ true
 unfolding measures startedOf
-step-up d Start f u = u
-step-up d Stop f u = stop-up d f u
-step-up d (Byte v) f u = rw (byte-memory (d .phase) d v) u
-step-up d (Read last) f u = rw (clock-memory (d .phase) (levelIn (d .memory)) d last) u
-step-up d WriteDone f u = u
-step-up d PowerCycle f u = cycled-up (d .memory .bytes) (u .size)
-step-up d (PinsSet p) f u =
-    let b = d .memory .bytes in
-    kept b _ (length-set b 0x6E (pinByte p)) (other-alarm b 0x6E (pinByte p) (λ z. omega arith)) u
-step-up d (Sample c raw) f u =
-    let b = d .memory .bytes in
-    kept b _ (sampled-length b c raw) (sampled-alarm b c raw (omega (arith, u .size)) f) u
-step-up d (FastSample c v) f u =
-    let b = d .memory .bytes in
-    kept b _ (fast-length b c v) (fast-alarm b c v) u
+step-alarm d Start f u = u .alarm
+step-alarm d Stop f u = stop-alarm d f ∙ u .alarm
+step-alarm d (Byte v) f u = rw (byte-memory (d .phase) d v) (u .alarm)
+step-alarm d (Read last) f u = rw (clock-memory (d .phase) (levelIn (d .memory)) d last) (u .alarm)
+step-alarm d WriteDone f u = u .alarm
+step-alarm d PowerCycle f u = only-alarm _ (cycled-flags (d .memory .bytes) (omega (arith, u .size)))
+step-alarm d (PinsSet p) f u = other-alarm (d .memory .bytes) 0x6E (pinByte p) (λ z. omega arith) ∙ u .alarm
+step-alarm d (Sample c raw) f u = sampled-alarm (d .memory .bytes) c raw (omega (arith, u .size)) f ∙ u .alarm
+step-alarm d (FastSample c v) f u = fast-alarm (d .memory .bytes) c v ∙ u .alarm
 
 applied-up : (d : Device) (x : Decoded) → measuredBy d x ≡ false → Up (d .memory .bytes) → Up (appliedTo d x .device .memory .bytes)
-applied-up d (Known e) f u = step-up d e f u
+applied-up d (Known e) f u = record { size = step-length (levelIn (d .memory)) d e ∙ u .size; alarm = step-alarm d e f u }
 applied-up d OutOfRange f u = u
 applied-up d UnknownLetter f u = u
 
@@ -112,14 +94,15 @@ until (r ∷ rs) d u (suc n) h =
 
 begun : (d : Device) → Cycled d → Up (d .memory .bytes)
 unfolding startOf
-begun d (by-start image e) = record { size = whole-loaded image e .bytes; alarm = ap (bitOf 4) (loaded-flags image e .alarm) }
-begun d (by-cycle b h) = cycled-up (b .memory .bytes) h
+begun d (by-start image e) = record { size = whole-loaded image e .bytes; alarm = only-alarm _ (loaded-flags image e) }
+begun d (by-cycle b h) =
+    record { size = cycled-length (b .memory .bytes) ∙ h; alarm = only-alarm _ (cycled-flags (b .memory .bytes) (omega arith)) }
 
 -- 2.2
 pub up-until-measured : UpUntilMeasured
 up-until-measured d rs c n h = until rs d (begun d c) n h
 
--- so a device without the mark was measured
+-- so where the alarm is down, an event that measures has come
 pub down-measured : (d : Device) (rs : List Raw) → Cycled d → (n : ℕ) → supplyAlarm (afterOf d (take n rs) .memory .bytes) ≡ false
     → beforeMeasured d rs < n
 down-measured d rs c n e = go (ltb (beforeMeasured d rs) n) refl

@@ -5,8 +5,8 @@ use mathlib.Core.Bool.{Bool, true, false, cond, _&&_}
 use mathlib.Core.List.{List, [], _∷_}
 use lib.ListN.{length, take}
 use lib.Dec.{eqb}
-use Rattle.memory.specs.Bytes.{bitOf}
-use Rattle.memory.specs.Access.{places, selectOf, controlOf, levelIn, writableAt}
+use Rattle.memory.specs.Access.{places, selectOf, controlOf, levelIn}
+use Rattle.memory.specs.Page.{storesAt}
 use Rattle.memory.specs.declared.Verdict.the-variants.{Accepted}
 use Rattle.readings.specs.Measured.{supplyAlarm, sampleMeasures}
 use Rattle.letters.specs.Letters.{decodeOf}
@@ -25,8 +25,8 @@ use Rattle.device.specs.declared.Device.{Device}
 abbrev pub stopMeasures : Device → Bool
 stopMeasures d =
     let bytes = d .memory .bytes in
-    eqb (d .pointer / 8 * 8) 0x70
-    && (bitOf 0 (heldOf (d .phase)) && writableAt (levelIn (d .memory)) (controlOf bytes) (selectOf bytes) 0x70)
+    let base = d .pointer / 8 * 8 in
+    eqb base 0x70 && storesAt (levelIn (d .memory)) (controlOf bytes) (selectOf bytes) base (heldOf (d .phase)) 0
 
 -- whether an event measures the supply, in the state that it meets: a V sample that is taken with E8h bit 5 clear, a stop that
 -- stores 70h, and nothing else

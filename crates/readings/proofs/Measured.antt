@@ -11,6 +11,7 @@ use lib.Seq.{getD-set-same, getD-set-other}
 use Rattle.memory.specs.Bytes.{bitOf, oneIf, fieldOf, putField}
 use Rattle.memory.specs.Access.{controlOf}
 use Rattle.memory.proofs.Bools.{true-right, true-false}
+use Rattle.memory.proofs.Cycle.{AlarmOnly}
 use Rattle.readings.specs.Readings.{channelNumber, readingOf, limitsOf, orderOf, flagsOf, putFlags, flaggedOf, storedReading, sampledOf, fastOf}
 use Rattle.readings.specs.Measured.{supplyAlarm, sampleMeasures}
 use Rattle.readings.specs.declared.Channel.{Channel}
@@ -24,6 +25,10 @@ same-alarm x y e = ap (bitOf 4) e
 
 pub other-alarm : (l : List ℕ) (i v : ℕ) → (0x70 ≡ i → ⊥) → supplyAlarm (set l i v) ≡ supplyAlarm l
 other-alarm l i v n = same-alarm (set l i v) l (getD-set-other l i 0x70 v 0 n)
+
+-- it is up after C
+pub only-alarm : (b : List ℕ) → AlarmOnly b → supplyAlarm b ≡ true
+only-alarm b h = ap (bitOf 4) (h .alarm)
 
 -- the two flags of a channel fit its two bits
 one-le : (b : Bool) → oneIf b ≤ 1
