@@ -31,7 +31,7 @@ use Rattle.device.specs.Told.{flagsUp}
 use Rattle.device.specs.Secrecy.{Reached}
 use Rattle.device.specs.Measured.{stopMeasures, measures, measuredBy, beforeMeasured, Cycled, by-start, by-cycle, UpUntilMeasured}
 use Rattle.device.specs.declared.Device.{Device}
-use Rattle.device.proofs.Steps.{byte-memory, clock-memory, step-length}
+use Rattle.device.proofs.Steps.{byte-kept, clock-kept, step-length}
 use Rattle.device.proofs.Sound.{reached-sound}
 use Rattle.device.proofs.Traffic.{C}
 
@@ -61,8 +61,8 @@ step-alarm : (d : Device) (e : Event) → measures d e ≡ false → Up (d .memo
 unfolding measures startedOf
 step-alarm d Start f u = u .alarm
 step-alarm d Stop f u = stop-alarm d f ∙ u .alarm
-step-alarm d (Byte v) f u = rw (byte-memory (d .phase) d v) (u .alarm)
-step-alarm d (Read last) f u = rw (clock-memory (d .phase) (levelIn (d .memory)) d last) (u .alarm)
+step-alarm d (Byte v) f u = rw (byte-kept (d .phase) d v .memory) (u .alarm)
+step-alarm d (Read last) f u = rw (clock-kept (d .phase) (levelIn (d .memory)) d last .memory) (u .alarm)
 step-alarm d WriteDone f u = u .alarm
 step-alarm d PowerCycle f u = only-alarm _ (cycled-flags (d .memory .bytes) (omega (arith, u .size)))
 step-alarm d (PinsSet p) f u = other-alarm (d .memory .bytes) 0x6E (pinByte p) (λ z. omega arith) ∙ u .alarm

@@ -5,8 +5,9 @@ use Rattle.device.proofs.events.take_sample.Tie as tie
 
 returns : tie.Need-returns
 returns c =
-    let s = c .before .before .sample .ensures in
-    (s .0, rw (← s .1, ← c .before .with-raised .ensures, ← c .before .before .before .before .taken .ensures) (c .reply-with .ensures))
+    let c3 = c .before .before .before in
+    let s = c3 .sample .ensures in
+    (s .0, rw (c .reply-with .ensures, c .before .settle .ensures, s .1, c3 .before .before .taken .ensures))
 
 pub take-sample-spec : {M : Type 1} → statement M
 take-sample-spec =
