@@ -1,0 +1,114 @@
+-- Document 02, 2.5: by document 01 alone a reading is torn; with the hold, the same events give one reading. And of the theorem's
+-- hypotheses, the one on the device is needed.
+-- Assumes nothing.
+use Prim.Native.Nat.{ℕ, zero, suc}
+use mathlib.Core.Path.{_≡_, refl, sym, ap}
+use mathlib.Core.Logic.{_≢_}
+use mathlib.Core.Bool.{Bool, true, false, not, _&&_}
+use mathlib.Core.List.{List, [], _∷_, _++_}
+use native.Mathlib.Omega.{arith}
+use lib.Dec.{eqb}
+use lib.ListN.{getD, take}
+use lib.Seq.{take-nil}
+use borrow.Author.Tests.{eq-eqb}
+use Rattle.memory.specs.Bytes.{wordAt}
+use Rattle.memory.specs.Access.{placeOf, levelOf, classOf, readAt}
+use Rattle.memory.specs.Power.{cycledBytes}
+use Rattle.memory.specs.Image.{imageBytes, imageMemory, verdictOf, loadOf}
+use Rattle.memory.proofs.Bools.{and-true, true-false}
+use Rattle.readings.specs.Readings.{flaggedOf, sampledOf}
+use Rattle.letters.specs.Letters.{decodeOf}
+use Rattle.letters.specs.declared.Event.the-variants.{Read}
+use Rattle.letters.specs.declared.Raw.{Raw}
+use Rattle.device.specs.State.{noPage, onBus}
+use Rattle.device.specs.Answers.{valueOf}
+use Rattle.device.specs.Bus.{addressOf, restOf, hasHigh, besideOf, startedOf, listenedOf}
+use Rattle.device.specs.Step.{stepOf}
+use Rattle.device.specs.Calls.{startOf, applyOf}
+use Rattle.device.specs.Run.{afterOf, repliesOf}
+use Rattle.device.specs.Secrecy.{fresh}
+use Rattle.device.specs.Torn.{isReading, allOffBus, plainly, plainAfter, plainReplies}
+use Rattle.device.specs.declared.LowByte.the-variants.{Held}
+use Rattle.device.specs.declared.Phase.the-variants.{Reading}
+use Rattle.device.specs.declared.Device.{Device}
+use Rattle.device.specs.declared.Answer.the-variants.{Data, Other}
+use Rattle.device.specs.declared.Reply.{Reply}
+use Rattle.device.specs.declared.Reply.the-variants.{Answered}
+use Rattle.device.proofs.Runs.{reached-after}
+use Rattle.device.proofs.Torn.{never-torn}
+use Rattle.device.proofs.Traffic.{S, B, R, A, write, masterImage}
+
+-- ---- a list that tears
+
+abbrev start : Device
+start = startOf (masterImage 0xA2) .device
+
+-- T is 25.9375 °C, 19F0h; its reading is addressed, and between its two bytes T becomes 26 °C, 1A00h
+abbrev opening : List Raw
+opening = A 0 0x19F0 ∷ write 0x60 [] ++ (S ∷ B 0xA3 ∷ [])
+
+abbrev reading : List Raw
+reading = R 0 ∷ A 0 0x1A00 ∷ R 1 ∷ []
+
+-- the replies to the reading: the high byte, a sample that was taken, the low byte
+abbrev twoBytes : ℕ → ℕ → List Reply
+twoBytes high low = Answered (Data high) ∷ Answered (Other 1) ∷ Answered (Data low) ∷ []
+
+-- by document 01: 19h of the first reading and 00h of the second, 1900h, 25 °C
+pub torn : plainReplies (plainAfter start opening) reading ≡ twoBytes 0x19 0x00
+unfolding plainAfter plainReplies placeOf levelOf classOf readAt cycledBytes imageBytes imageMemory verdictOf loadOf flaggedOf sampledOf addressOf restOf besideOf startedOf listenedOf decodeOf startOf applyOf
+torn = refl
+
+-- by 2.5: 19F0h
+pub not-torn : repliesOf (afterOf start opening) reading ≡ twoBytes 0x19 0xF0
+unfolding repliesOf afterOf placeOf levelOf classOf readAt cycledBytes imageBytes imageMemory verdictOf loadOf flaggedOf sampledOf addressOf restOf besideOf startedOf listenedOf decodeOf startOf applyOf
+not-torn = refl
+
+-- as the theorem has it: its hypotheses are met
+pub met-torn : let d = afterOf start opening in
+    let first = stepOf d (Read false) in
+    (first .answer ≡ Data 0x19) × (stepOf (afterOf (first .device) (A 0 0x1A00 ∷ [])) (Read true) .answer ≡ Data 0xF0)
+unfolding afterOf allOffBus placeOf levelOf classOf readAt cycledBytes imageBytes imageMemory verdictOf loadOf flaggedOf sampledOf addressOf restOf besideOf startedOf listenedOf decodeOf startOf applyOf
+met-torn =
+    never-torn (afterOf start opening) (A 0 0x1A00 ∷ []) true (reached-after opening start (fresh (masterImage 0xA2) refl)) refl refl refl
+
+-- ---- no reading was ever 1900h
+
+-- T's reading, and tests that compute whether it is another than x: now, and also after each event
+abbrev readingOfT : Device → ℕ
+readingOfT d = wordAt (d .memory .bytes) 0x60
+
+abbrev another : ℕ → Device → Bool
+another x d = not (eqb (readingOfT d) x)
+
+always : ℕ → Device → List Raw → Bool
+always x d [] = another x d
+always x d (r ∷ rs) = another x d && always x (plainly (applyOf d r .device)) rs
+
+differs : (x : ℕ) (d : Device) → another x d ≡ true → readingOfT d ≢ x
+differs x d e q = true-false (sym (rw (eq-eqb (readingOfT d) x q) at e))
+
+never : (x : ℕ) (rs : List Raw) (d : Device) → always x d rs ≡ true → (n : ℕ) → readingOfT (plainAfter d (take n rs)) ≢ x
+unfolding always plainAfter
+never x [] d e n = rw (take-nil n) (differs x d e)
+never x (r ∷ rs) d e zero = differs x d (and-true (another x d) (always x (plainly (applyOf d r .device)) rs) e .0)
+never x (r ∷ rs) d e (suc n) =
+    let next = plainly (applyOf d r .device) in
+    never x rs next (and-true (another x d) (always x next rs) e .1) n
+
+pub no-such-reading : (n : ℕ) → readingOfT (plainAfter start (take n (opening ++ reading))) ≢ 0x1900
+unfolding always placeOf levelOf classOf readAt cycledBytes imageBytes imageMemory verdictOf loadOf flaggedOf sampledOf addressOf restOf besideOf startedOf listenedOf decodeOf startOf applyOf
+no-such-reading = never 0x1900 (opening ++ reading) start refl
+
+-- ---- the hypothesis that the device is a reached one is needed
+
+-- no event leads to a device that holds a byte while its pointer is at a high one; a host can make one up
+abbrev madeUp : Device
+madeUp = onBus start (Reading (Held 1)) 0x60 noPage
+
+pub reached-needed : ((d : Device) → isReading (d .phase) ≡ true → hasHigh (d .pointer) ≡ true
+    → stepOf d (Read false) .answer ≡ Data (getD (d .memory .bytes) (d .pointer) 0)) → ⊥
+unfolding placeOf levelOf classOf readAt cycledBytes imageBytes imageMemory verdictOf loadOf besideOf startOf
+reached-needed claim =
+    let h : _≡_ {A = ℕ} 1 0 = ap valueOf (claim madeUp refl refl) in
+    omega arith
