@@ -1,7 +1,7 @@
--- Document 02, 2.5: laws of the low byte that is held beside a high byte, at any pointer.
+-- Document 02, 2.5: laws of the addresses that have a high byte, and of the phase that an R there leads to.
 -- Assumes nothing.
 use Prim.Native.Nat.{ℕ, _+_, _*_, _%_, _≤_}
-use mathlib.Core.Path.{_≡_, refl, sym}
+use mathlib.Core.Path.{_≡_, refl, sym, ap, _∙_}
 use mathlib.Core.Bool.{Bool, true, false, cond}
 use mathlib.Core.List.{List}
 use native.Mathlib.Omega.{arith}
@@ -18,8 +18,10 @@ use Rattle.memory.proofs.View.{lower-open}
 use Rattle.readings.specs.Readings.{channelNumber}
 use Rattle.readings.specs.declared.Channel.{Channel}
 use Rattle.readings.specs.declared.Channel.the-variants.{Temperature, Supply, Bias, Transmitted, Received}
-use Rattle.device.specs.Bus.{hasHigh, besideOf, givenBy}
-use Rattle.device.specs.declared.LowByte.the-variants.{NotHeld, Held}
+use Rattle.device.specs.Bus.{hasHigh, readingAt, clockedOf, readIn}
+use Rattle.device.specs.declared.Phase.{Phase}
+use Rattle.device.specs.declared.Phase.the-variants.{Reading, ReadingLow}
+use Rattle.device.specs.declared.Device.{Device}
 
 -- an address with a high byte
 pub record High (p : ℕ) : Type 0 where
@@ -41,30 +43,38 @@ high-places Bias = refl
 high-places Transmitted = refl
 high-places Received = refl
 
-pub beside-high : (b : List ℕ) (p : ℕ) → hasHigh p ≡ true → besideOf b p ≡ Held (getD b (p + 1) 0)
-unfolding besideOf
-beside-high b p h = rw h
-
--- the byte beside it lies in the lower half, so it is open to every viewer
-pub beside-open : (v : ℕ) (b : List ℕ) (p : ℕ) → besideOf (openBytes v b) p ≡ besideOf b p
-unfolding besideOf
-beside-open v b p = go (hasHigh p) refl
+-- what holds of reading without a low byte, and with the one that stands beside p if p has a high byte
+pub by-high : (P : Phase → Type 0) (b : List ℕ) (p : ℕ) → P Reading → (High p → P (ReadingLow (getD b (p + 1) 0))) → P (readingAt b p)
+unfolding readingAt
+by-high P b p none low = go (hasHigh p) refl
   where
-    go : (t : Bool) → hasHigh p ≡ t → cond t (Held (getD (openBytes v b) (p + 1) 0)) NotHeld ≡ cond t (Held (getD b (p + 1) 0)) NotHeld
+    go : (t : Bool) → hasHigh p ≡ t → P (cond t (ReadingLow (getD b (p + 1) 0)) Reading)
+    go true e = low (is-high p e)
+    go false e = none
+
+pub reading-high : (b : List ℕ) (p : ℕ) → hasHigh p ≡ true → readingAt b p ≡ ReadingLow (getD b (p + 1) 0)
+unfolding readingAt
+reading-high b p h = rw h
+
+-- the byte beside a high byte lies in the lower half, so it is open to every viewer
+pub reading-open : (v : ℕ) (b : List ℕ) (p : ℕ) → readingAt (openBytes v b) p ≡ readingAt b p
+unfolding readingAt
+reading-open v b p = go (hasHigh p) refl
+  where
+    go : (t : Bool) → hasHigh p ≡ t
+        → cond t (ReadingLow (getD (openBytes v b) (p + 1) 0)) Reading ≡ cond t (ReadingLow (getD b (p + 1) 0)) Reading
     go true e =
         let h = is-high p e .to in
         rw (seen-get v b (p + 1) (lower-open v (p + 1) (omega arith)))
     go false e = refl
 
--- while the bytes stay, the held byte is the one that stands
-pub beside-stands : (l : ℕ) (b : List ℕ) (p : ℕ) → givenBy (besideOf b p) (readAt l b (p + 1)) ≡ readAt l b (p + 1)
-unfolding besideOf
-beside-stands l b p = go (hasHigh p) refl
-  where
-    go : (t : Bool) → hasHigh p ≡ t → givenBy (cond t (Held (getD b (p + 1) 0)) NotHeld) (readAt l b (p + 1)) ≡ readAt l b (p + 1)
-    go true e =
-        let h = is-high p e in
-        let lo = h .from in
-        let hi = h .to in
-        sym (status-read l b (p + 1) (omega arith) (omega arith))
-    go false e = refl
+-- while the bytes stay, a low byte that is held is the one that stands
+pub low-stands : (l : ℕ) (d : Device) (p : ℕ) (last : Bool) → d .pointer ≡ p + 1
+    → readIn (readingAt (d .memory .bytes) p) l d last ≡ clockedOf d last (readAt l (d .memory .bytes) (d .pointer))
+low-stands l d p last q =
+    let b = d .memory .bytes in
+    by-high (λ (x : Phase). readIn x l d last ≡ clockedOf d last (readAt l b (d .pointer))) b p refl
+    (λ h.
+    let lo = h .from in
+    let hi = h .to in
+    ap (clockedOf d last) (sym (status-read l b (p + 1) (omega arith) (omega arith)) ∙ ap (readAt l b) (sym q)))

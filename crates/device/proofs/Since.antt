@@ -3,6 +3,7 @@
 use Prim.Native.Nat.{ℕ, _+_, _%_}
 use mathlib.Core.Path.{_≡_, refl, sym, ap, _∙_}
 use mathlib.Core.Bool.{Bool, true, false, cond, not, _&&_}
+use mathlib.Core.Option.{Option, none, some, Option·getD, Option·some-injective, Option·none-ne-some}
 use mathlib.Core.List.{List, [], _∷_, _++_}
 use native.Mathlib.Omega.{arith}
 use lib.ListN.{getD}
@@ -14,16 +15,14 @@ use Rattle.letters.specs.declared.Event.the-variants.{Start, Stop, Byte, Read, 
 use Rattle.letters.specs.declared.Raw.{Raw}
 use Rattle.letters.specs.declared.Decoded.{Decoded}
 use Rattle.letters.specs.declared.Decoded.the-variants.{Known, OutOfRange, UnknownLetter}
-use Rattle.device.specs.Bus.{lowOf, hasHigh, besideOf, givenBy, startedOf, listenedOf, gatheredOf, byteIn, readIn, stoppedAt}
+use Rattle.device.specs.Bus.{isReading, lowOf, hasHigh, readingAt, startedOf, listenedOf, gatheredOf, byteIn, readIn, stoppedAt}
 use Rattle.device.specs.Step.{stepOf}
 use Rattle.device.specs.Calls.{startOf, appliedTo, applyOf}
 use Rattle.device.specs.Run.{afterOf}
 use Rattle.device.specs.Secrecy.{Reached, fresh, later}
-use Rattle.device.specs.Torn.{isReading, lowAfter, offBus, offBusBy, allOffBus, Since}
-use Rattle.device.specs.declared.LowByte.{LowByte}
-use Rattle.device.specs.declared.LowByte.the-variants.{NotHeld, Held}
+use Rattle.device.specs.Torn.{lowAfter, offBus, offBusBy, allOffBus, Since}
 use Rattle.device.specs.declared.Phase.{Phase}
-use Rattle.device.specs.declared.Phase.the-variants.{Idle, Listening, Addressed, Writing, Reading}
+use Rattle.device.specs.declared.Phase.the-variants.{Idle, Listening, Addressed, Writing, Reading, ReadingLow}
 use Rattle.device.specs.declared.Device.{Device}
 use Rattle.device.specs.declared.Answer.the-variants.{Data}
 use Rattle.device.proofs.Low.{is-high}
@@ -31,22 +30,34 @@ use Rattle.device.proofs.Steps.{heard-phase}
 
 -- ---- the hold, event by event
 
-byte-low : (p : Phase) (d : Device) (v : ℕ) → d .phase ≡ p → lowOf (byteIn p d v .device .phase) ≡ NotHeld
+byte-low : (p : Phase) (d : Device) (v : ℕ) → d .phase ≡ p → lowOf (byteIn p d v .device .phase) ≡ none
 unfolding listenedOf gatheredOf
 byte-low Idle d v e = ap lowOf e
-byte-low Listening d v e = rw (heard-phase lowOf NotHeld refl refl refl _ _)
+byte-low Listening d v e = rw (heard-phase lowOf none refl refl refl _ _)
 byte-low Addressed d v e = refl
 byte-low (Writing mask) d v e = refl
-byte-low (Reading low) d v e = refl
+byte-low Reading d v e = ap lowOf e
+byte-low (ReadingLow low) d v e = refl
+
+low-at : (b : List ℕ) (p : ℕ) → lowOf (readingAt b p) ≡ cond (hasHigh p) (some (getD b (p + 1) 0)) none
+unfolding readingAt
+low-at b p = go (hasHigh p)
+  where
+    go : (t : Bool) → lowOf (cond t (ReadingLow (getD b (p + 1) 0)) Reading) ≡ cond t (some (getD b (p + 1) 0)) none
+    go true = refl
+    go false = refl
 
 clock-low : (p : Phase) (l : ℕ) (d : Device) (last : Bool) → d .phase ≡ p
-    → lowOf (readIn p l d last .device .phase) ≡ cond (isReading p && not last) (besideOf (d .memory .bytes) (d .pointer)) NotHeld
+    → lowOf (readIn p l d last .device .phase)
+    ≡ cond (isReading p && (not last && hasHigh (d .pointer))) (some (getD (d .memory .bytes) (d .pointer + 1) 0)) none
 clock-low Idle l d last e = ap lowOf e
 clock-low Listening l d last e = ap lowOf e
 clock-low Addressed l d last e = ap lowOf e
 clock-low (Writing mask) l d last e = ap lowOf e
-clock-low (Reading low) l d true e = refl
-clock-low (Reading low) l d false e = refl
+clock-low Reading l d true e = refl
+clock-low Reading l d false e = low-at (d .memory .bytes) (d .pointer)
+clock-low (ReadingLow low) l d true e = refl
+clock-low (ReadingLow low) l d false e = low-at (d .memory .bytes) (d .pointer)
 
 pub low-after : (d : Device) (e : Event) → lowOf (stepOf d e .device .phase) ≡ lowAfter d e
 unfolding startedOf stoppedAt lowAfter
@@ -63,24 +74,16 @@ low-after d (FastSample c v) = refl
 -- ---- R in reading
 
 pub read-answer : (p : Phase) (l : ℕ) (d : Device) (last : Bool) → isReading p ≡ true
-    → readIn p l d last .answer ≡ Data (givenBy (lowOf p) (readAt l (d .memory .bytes) (d .pointer)))
-read-answer Idle l d last r = true-false (sym r)
-read-answer Listening l d last r = true-false (sym r)
-read-answer Addressed l d last r = true-false (sym r)
-read-answer (Writing mask) l d last r = true-false (sym r)
-read-answer (Reading low) l d last r = refl
+    → readIn p l d last .answer ≡ Data (Option·getD (lowOf p) (readAt l (d .memory .bytes) (d .pointer)))
+read-answer p l d last r = rw r
 
 -- the phase and the pointer of a device
 abbrev pub Placed : Device → Phase → ℕ → Type 0
 Placed d p q = (d .phase ≡ p) × (d .pointer ≡ q)
 
 pub read-placed : (p : Phase) (l : ℕ) (d : Device) → isReading p ≡ true
-    → Placed (readIn p l d false .device) (Reading (besideOf (d .memory .bytes) (d .pointer))) ((d .pointer + 1) % 256)
-read-placed Idle l d r = true-false (sym r)
-read-placed Listening l d r = true-false (sym r)
-read-placed Addressed l d r = true-false (sym r)
-read-placed (Writing mask) l d r = true-false (sym r)
-read-placed (Reading low) l d r = (refl, refl)
+    → Placed (readIn p l d false .device) (readingAt (d .memory .bytes) (d .pointer)) ((d .pointer + 1) % 256)
+read-placed p l d r = rw r (refl, refl)
 
 -- events that are neither of the bus nor C leave both
 off-placed : (d : Device) (e : Event) → offBus e ≡ true → Placed (stepOf d e .device) (d .phase) (d .pointer)
@@ -111,20 +114,13 @@ after-placed (r ∷ rs) d o =
 
 -- ---- where a held byte comes from
 
-abbrev isHeld : LowByte → Bool
-isHeld NotHeld = false
-isHeld (Held b) = true
-
-none : {A : Type 0} (b : ℕ) → NotHeld ≡ Held b → A
-none b e = true-false (sym (ap isHeld e))
-
 -- an R that holds a byte: it was in reading, acknowledged, at a high byte
-begun : (reading last high : Bool) (b x : ℕ) → cond (reading && not last) (cond high (Held x) NotHeld) NotHeld ≡ Held b
+begun : (reading last high : Bool) (b x : ℕ) → cond (reading && (not last && high)) (some x) none ≡ some b
     → (reading ≡ true) × ((last ≡ false) × ((high ≡ true) × (b ≡ x)))
-begun true true high b x e = none b e
-begun true false true b x e = (refl, (refl, (refl, sym (ap (λ (low : LowByte). givenBy low 0) e))))
-begun true false false b x e = none b e
-begun false last high b x e = none b e
+begun true true high b x e = absurd (Option·none-ne-some b e)
+begun true false true b x e = (refl, (refl, (refl, sym (Option·some-injective x b e))))
+begun true false false b x e = absurd (Option·none-ne-some b e)
+begun false last high b x e = absurd (Option·none-ne-some b e)
 
 -- one event more
 off-append : (rs : List Raw) (r : Raw) → allOffBus rs ≡ true → offBusBy (decodeOf r) ≡ true → allOffBus (rs ++ (r ∷ [])) ≡ true
@@ -155,8 +151,8 @@ since-more d r b q s =
       byte = s .byte ∙ ap (λ (p : ℕ). getD (s .moment .memory .bytes) p 0) (sym stays);
     }
 
-since-read : (d : Device) (last : Bool) (b : ℕ) → Reached d → lowAfter d (Read last) ≡ Held b → Since (stepOf d (Read last) .device) b
-unfolding lowAfter besideOf afterOf allOffBus
+since-read : (d : Device) (last : Bool) (b : ℕ) → Reached d → lowAfter d (Read last) ≡ some b → Since (stepOf d (Read last) .device) b
+unfolding lowAfter afterOf allOffBus
 since-read d true b h e =
     true-false (begun (isReading (d .phase)) true (hasHigh (d .pointer)) b (getD (d .memory .bytes) (d .pointer + 1) 0) e .1 .0)
 since-read d false b h e =
@@ -176,26 +172,26 @@ since-read d false b h e =
       byte = g .1 .1 .1 ∙ ap (λ (p : ℕ). getD (d .memory .bytes) p 0) (sym pointer);
     }
 
-since-bus : (d : Device) (e : Event) (b : ℕ) → offBus e ≡ false → Reached d → lowAfter d e ≡ Held b → Since (stepOf d e .device) b
+since-bus : (d : Device) (e : Event) (b : ℕ) → offBus e ≡ false → Reached d → lowAfter d e ≡ some b → Since (stepOf d e .device) b
 unfolding lowAfter
-since-bus d Start b o h e = none b e
-since-bus d Stop b o h e = none b e
-since-bus d (Byte v) b o h e = none b e
+since-bus d Start b o h e = absurd (Option·none-ne-some b e)
+since-bus d Stop b o h e = absurd (Option·none-ne-some b e)
+since-bus d (Byte v) b o h e = absurd (Option·none-ne-some b e)
 since-bus d (Read last) b o h e = since-read d last b h e
 since-bus d WriteDone b o h e = true-false o
-since-bus d PowerCycle b o h e = none b e
+since-bus d PowerCycle b o h e = absurd (Option·none-ne-some b e)
 since-bus d (PinsSet p) b o h e = true-false o
 since-bus d (Sample c raw) b o h e = true-false o
 since-bus d (FastSample c v) b o h e = true-false o
 
-since-known : (d : Device) (x : Decoded) (b : ℕ) → offBusBy x ≡ false → Reached d → lowOf (appliedTo d x .device .phase) ≡ Held b
+since-known : (d : Device) (x : Decoded) (b : ℕ) → offBusBy x ≡ false → Reached d → lowOf (appliedTo d x .device .phase) ≡ some b
     → Since (appliedTo d x .device) b
 since-known d (Known e) b o h q = since-bus d e b o h (sym (low-after d e) ∙ q)
 since-known d OutOfRange b o h q = true-false o
 since-known d UnknownLetter b o h q = true-false o
 
-since-later : (c : Device) (r : Raw) (b : ℕ) → Reached c → (lowOf (c .phase) ≡ Held b → Since c b)
-    → lowOf (applyOf c r .device .phase) ≡ Held b → Since (applyOf c r .device) b
+since-later : (c : Device) (r : Raw) (b : ℕ) → Reached c → (lowOf (c .phase) ≡ some b → Since c b)
+    → lowOf (applyOf c r .device .phase) ≡ some b → Since (applyOf c r .device) b
 unfolding applyOf
 since-later c r b h s e = go (offBusBy (decodeOf r)) refl
   where
@@ -204,18 +200,18 @@ since-later c r b h s e = go (offBusBy (decodeOf r)) refl
     go false o = since-known c (decodeOf r) b o h e
 
 -- a reached device that holds a byte has had it since the high byte was read
-pub held-since : (d : Device) (b : ℕ) → Reached d → lowOf (d .phase) ≡ Held b → Since d b
+pub held-since : (d : Device) (b : ℕ) → Reached d → lowOf (d .phase) ≡ some b → Since d b
 unfolding startOf
-held-since d b (fresh image a) e = none b e
+held-since d b (fresh image a) e = absurd (Option·none-ne-some b e)
 held-since d b (later c r h) e = since-later c r b h (λ q. held-since c b h q) e
 
 -- so nothing is held where a high byte is to be read
-pub high-unheld : (d : Device) → Reached d → hasHigh (d .pointer) ≡ true → lowOf (d .phase) ≡ NotHeld
+pub high-unheld : (d : Device) → Reached d → hasHigh (d .pointer) ≡ true → lowOf (d .phase) ≡ none
 high-unheld d h e = go (lowOf (d .phase)) refl
   where
-    go : (low : LowByte) → lowOf (d .phase) ≡ low → low ≡ NotHeld
-    go NotHeld q = refl
-    go (Held b) q =
+    go : (low : Option ℕ) → lowOf (d .phase) ≡ low → low ≡ none
+    go none q = refl
+    go (some b) q =
         let s = held-since d b h q in
         let here = is-high (d .pointer) e .even in
         let there = is-high (s .moment .pointer) (s .high) .even in

@@ -22,14 +22,13 @@ use Rattle.letters.specs.declared.Event.the-variants.{Read}
 use Rattle.letters.specs.declared.Raw.{Raw}
 use Rattle.device.specs.State.{noPage, onBus}
 use Rattle.device.specs.Answers.{valueOf}
-use Rattle.device.specs.Bus.{addressOf, restOf, hasHigh, besideOf, startedOf, listenedOf}
+use Rattle.device.specs.Bus.{isReading, addressOf, restOf, hasHigh, readingAt, startedOf, listenedOf}
 use Rattle.device.specs.Step.{stepOf}
 use Rattle.device.specs.Calls.{startOf, applyOf}
 use Rattle.device.specs.Run.{afterOf, repliesOf}
 use Rattle.device.specs.Secrecy.{fresh}
-use Rattle.device.specs.Torn.{isReading, allOffBus, plainly, plainAfter, plainReplies}
-use Rattle.device.specs.declared.LowByte.the-variants.{Held}
-use Rattle.device.specs.declared.Phase.the-variants.{Reading}
+use Rattle.device.specs.Torn.{allOffBus, plainly, plainAfter, plainReplies}
+use Rattle.device.specs.declared.Phase.the-variants.{ReadingLow}
 use Rattle.device.specs.declared.Device.{Device}
 use Rattle.device.specs.declared.Answer.the-variants.{Data, Other}
 use Rattle.device.specs.declared.Reply.{Reply}
@@ -56,19 +55,19 @@ twoBytes high low = Answered (Data high) ∷ Answered (Other 1) ∷ Answered (Da
 
 -- by document 01: 19h of the first reading and 00h of the second, 1900h, 25 °C
 pub torn : plainReplies (plainAfter start opening) reading ≡ twoBytes 0x19 0x00
-unfolding plainAfter plainReplies placeOf levelOf classOf readAt cycledBytes imageBytes imageMemory verdictOf loadOf flaggedOf sampledOf addressOf restOf besideOf startedOf listenedOf decodeOf startOf applyOf
+unfolding plainAfter plainReplies placeOf levelOf classOf readAt cycledBytes imageBytes imageMemory verdictOf loadOf flaggedOf sampledOf addressOf restOf readingAt startedOf listenedOf decodeOf startOf applyOf
 torn = refl
 
 -- by 2.5: 19F0h
 pub not-torn : repliesOf (afterOf start opening) reading ≡ twoBytes 0x19 0xF0
-unfolding repliesOf afterOf placeOf levelOf classOf readAt cycledBytes imageBytes imageMemory verdictOf loadOf flaggedOf sampledOf addressOf restOf besideOf startedOf listenedOf decodeOf startOf applyOf
+unfolding repliesOf afterOf placeOf levelOf classOf readAt cycledBytes imageBytes imageMemory verdictOf loadOf flaggedOf sampledOf addressOf restOf readingAt startedOf listenedOf decodeOf startOf applyOf
 not-torn = refl
 
 -- as the theorem has it: its hypotheses are met
 pub met-torn : let d = afterOf start opening in
     let first = stepOf d (Read false) in
     (first .answer ≡ Data 0x19) × (stepOf (afterOf (first .device) (A 0 0x1A00 ∷ [])) (Read true) .answer ≡ Data 0xF0)
-unfolding afterOf allOffBus placeOf levelOf classOf readAt cycledBytes imageBytes imageMemory verdictOf loadOf flaggedOf sampledOf addressOf restOf besideOf startedOf listenedOf decodeOf startOf applyOf
+unfolding afterOf allOffBus placeOf levelOf classOf readAt cycledBytes imageBytes imageMemory verdictOf loadOf flaggedOf sampledOf addressOf restOf readingAt startedOf listenedOf decodeOf startOf applyOf
 met-torn =
     never-torn (afterOf start opening) (A 0 0x1A00 ∷ []) true (reached-after opening start (fresh (masterImage 0xA2) refl)) refl refl refl
 
@@ -97,18 +96,18 @@ never x (r ∷ rs) d e (suc n) =
     never x rs next (and-true (another x d) (always x next rs) e .1) n
 
 pub no-such-reading : (n : ℕ) → readingOfT (plainAfter start (take n (opening ++ reading))) ≢ 0x1900
-unfolding always placeOf levelOf classOf readAt cycledBytes imageBytes imageMemory verdictOf loadOf flaggedOf sampledOf addressOf restOf besideOf startedOf listenedOf decodeOf startOf applyOf
+unfolding always placeOf levelOf classOf readAt cycledBytes imageBytes imageMemory verdictOf loadOf flaggedOf sampledOf addressOf restOf readingAt startedOf listenedOf decodeOf startOf applyOf
 no-such-reading = never 0x1900 (opening ++ reading) start refl
 
 -- ---- the hypothesis that the device is a reached one is needed
 
 -- no event leads to a device that holds a byte while its pointer is at a high one; a host can make one up
 abbrev madeUp : Device
-madeUp = onBus start (Reading (Held 1)) 0x60 noPage
+madeUp = onBus start (ReadingLow 1) 0x60 noPage
 
 pub reached-needed : ((d : Device) → isReading (d .phase) ≡ true → hasHigh (d .pointer) ≡ true
     → stepOf d (Read false) .answer ≡ Data (getD (d .memory .bytes) (d .pointer) 0)) → ⊥
-unfolding placeOf levelOf classOf readAt cycledBytes imageBytes imageMemory verdictOf loadOf besideOf startOf
+unfolding placeOf levelOf classOf readAt cycledBytes imageBytes imageMemory verdictOf loadOf readingAt startOf
 reached-needed claim =
     let h : _≡_ {A = ℕ} 1 0 = ap valueOf (claim madeUp refl refl) in
     omega arith

@@ -1,24 +1,23 @@
 -- Document 02, 2.5: a reading never torn; and what R gives a stranger.
 -- Assumes nothing.
+use Prim.Native.Nat.{ℕ}
 use mathlib.Core.Path.{_≡_, refl, sym, ap, _∙_}
 use mathlib.Core.Bool.{Bool, true, false}
+use mathlib.Core.Option.{Option, none, some, Option·getD}
 use native.Mathlib.Omega.{arith}
 use Rattle.memory.specs.Access.{levelIn, readAt}
 use Rattle.memory.specs.Public.{publicByte}
 use Rattle.memory.proofs.Public.{status-read, read-public}
 use Rattle.letters.specs.declared.Event.the-variants.{Read}
-use Rattle.device.specs.Bus.{lowOf, givenBy}
+use Rattle.device.specs.Bus.{isReading, lowOf}
 use Rattle.device.specs.Step.{stepOf}
 use Rattle.device.specs.Run.{afterOf}
 use Rattle.device.specs.Secrecy.{Reached, Stranger}
-use Rattle.device.specs.Torn.{isReading, NeverTorn, GivesStanding, of-now, of-then, Gives}
-use Rattle.device.specs.declared.LowByte.{LowByte}
-use Rattle.device.specs.declared.LowByte.the-variants.{NotHeld, Held}
+use Rattle.device.specs.Torn.{NeverTorn, GivesStanding, of-now, of-then, Gives}
 use Rattle.device.specs.declared.Phase.{Phase}
-use Rattle.device.specs.declared.Phase.the-variants.{Reading}
 use Rattle.device.specs.declared.Device.{Device}
 use Rattle.device.specs.declared.Answer.the-variants.{Data}
-use Rattle.device.proofs.Low.{is-high, beside-high}
+use Rattle.device.proofs.Low.{is-high, reading-high}
 use Rattle.device.proofs.Since.{low-after, read-answer, read-placed, after-placed, held-since, high-unheld}
 use Rattle.device.proofs.Public.{stranger-reads}
 
@@ -31,11 +30,11 @@ never-torn d rs last h r high o =
     let first = stepOf d (Read false) .device in
     let placed = read-placed (d .phase) l d r in
     let stays = after-placed rs first o in
-    let phase = stays .0 ∙ placed .0 ∙ ap Reading (beside-high b p high) in
+    let phase = stays .0 ∙ placed .0 ∙ reading-high b p high in
     let after = afterOf first rs in (
       read-answer (d .phase) l d false r ∙ rw (high-unheld d h high, status-read l b p (g .from) (omega (arith, g .to))),
       read-answer (after .phase) (levelIn (after .memory)) after last (ap isReading phase)
-          ∙ ap (λ (q : Phase). Data (givenBy (lowOf q) (readAt (levelIn (after .memory)) (after .memory .bytes) (after .pointer)))) phase,
+          ∙ ap (λ (q : Phase). Data (Option·getD (lowOf q) (readAt (levelIn (after .memory)) (after .memory .bytes) (after .pointer)))) phase,
     )
 
 pub gives-standing : GivesStanding
@@ -44,21 +43,21 @@ gives-standing d e rs last n o r =
     let after = afterOf one rs in
     let low = ap lowOf (after-placed rs one o .0) ∙ low-after d e ∙ n in
     read-answer (after .phase) (levelIn (after .memory)) after last r
-    ∙ ap (λ (q : LowByte). Data (givenBy q (readAt (levelIn (after .memory)) (after .memory .bytes) (after .pointer)))) low
+    ∙ ap (λ (q : Option ℕ). Data (Option·getD q (readAt (levelIn (after .memory)) (after .memory .bytes) (after .pointer)))) low
 
 -- ---- what R gives a stranger
 
 pub stranger-given : (d : Device) (last : Bool) → Reached d → Stranger d → isReading (d .phase) ≡ true → Gives d last
 stranger-given d last h s r = go (lowOf (d .phase)) refl
   where
-    go : (low : LowByte) → lowOf (d .phase) ≡ low → Gives d last
-    go NotHeld e =
+    go : (low : Option ℕ) → lowOf (d .phase) ≡ low → Gives d last
+    go none e =
         record {
           byte = publicByte (d .memory .bytes) (d .pointer);
           answer = read-answer (d .phase) (levelIn (d .memory)) d last r ∙ rw (e, stranger-reads d (d .pointer) s);
-          public = of-now;
+          source = of-now;
         }
-    go (Held b) e =
+    go (some b) e =
         let f = held-since d b h e in
         let high = is-high (f .moment .pointer) (f .high) in
         let next = f .pointer in
@@ -67,5 +66,5 @@ stranger-given d last h s r = go (lowOf (d .phase)) refl
         record {
           byte = publicByte then (d .pointer);
           answer = read-answer (d .phase) (levelIn (d .memory)) d last r ∙ rw e (ap Data (f .byte ∙ here));
-          public = of-then b f;
+          source = of-then b f;
         }

@@ -1,8 +1,9 @@
 -- Document 02, 2.5: a reading never torn. What leaves and ends the hold, what document 01 gives without it, and the statements.
-use Prim.Native.Nat.{ℕ, _+_}
+use Prim.Native.Nat.{ℕ, _+_, _%_}
 use Prim.{Unit}
 use mathlib.Core.Path.{_≡_}
 use mathlib.Core.Bool.{Bool, true, false, cond, not, _&&_}
+use mathlib.Core.Option.{Option, none, some}
 use mathlib.Core.List.{List, [], _∷_}
 use lib.ListN.{getD}
 use Rattle.memory.specs.Access.{levelIn, readAt}
@@ -13,38 +14,31 @@ use Rattle.letters.specs.declared.Event.the-variants.{Start, Stop, Byte, Read, 
 use Rattle.letters.specs.declared.Raw.{Raw}
 use Rattle.letters.specs.declared.Decoded.{Decoded}
 use Rattle.letters.specs.declared.Decoded.the-variants.{Known, OutOfRange, UnknownLetter}
-use Rattle.device.specs.State.{onBus}
-use Rattle.device.specs.Bus.{lowOf, hasHigh, besideOf}
+use Rattle.device.specs.State.{onBus, answered}
+use Rattle.device.specs.Bus.{isReading, lowOf, hasHigh}
 use Rattle.device.specs.Step.{stepOf}
 use Rattle.device.specs.Calls.{applyOf}
 use Rattle.device.specs.Run.{afterOf, repliesOf}
 use Rattle.device.specs.Secrecy.{Reached}
-use Rattle.device.specs.declared.LowByte.{LowByte}
-use Rattle.device.specs.declared.LowByte.the-variants.{NotHeld}
 use Rattle.device.specs.declared.Phase.{Phase}
-use Rattle.device.specs.declared.Phase.the-variants.{Idle, Listening, Addressed, Writing, Reading}
+use Rattle.device.specs.declared.Phase.the-variants.{Idle, Listening, Addressed, Writing, Reading, ReadingLow}
 use Rattle.device.specs.declared.Device.{Device}
 use Rattle.device.specs.declared.Answer.the-variants.{Data}
+use Rattle.device.specs.declared.Stepped.{Stepped}
 use Rattle.device.specs.declared.Reply.{Reply}
-
-abbrev pub isReading : Phase → Bool
-isReading Idle = false
-isReading Listening = false
-isReading Addressed = false
-isReading (Writing mask) = false
-isReading (Reading low) = true
 
 -- ---- the hold, event by event
 
--- what is held after an event, in the state that it meets: R in reading that is acknowledged holds what stands beside its address, if that has
--- a high byte; any other event of the bus, and C, ends the hold; W, I, A and F leave it
-unfoldable pub lowAfter : Device → Event → LowByte
-lowAfter d Start = NotHeld
-lowAfter d Stop = NotHeld
-lowAfter d (Byte v) = NotHeld
-lowAfter d (Read last) = cond (isReading (d .phase) && not last) (besideOf (d .memory .bytes) (d .pointer)) NotHeld
+-- what is held after an event, in the state that it meets: an R in reading that is acknowledged, at an even address of 60h to 68h, holds the
+-- byte that stands beside it; any other event of the bus, and C, ends the hold; W, I, A and F leave it
+unfoldable pub lowAfter : Device → Event → Option ℕ
+lowAfter d Start = none
+lowAfter d Stop = none
+lowAfter d (Byte v) = none
+lowAfter d (Read last) =
+    cond (isReading (d .phase) && (not last && hasHigh (d .pointer))) (some (getD (d .memory .bytes) (d .pointer + 1) 0)) none
 lowAfter d WriteDone = lowOf (d .phase)
-lowAfter d PowerCycle = NotHeld
+lowAfter d PowerCycle = none
 lowAfter d (PinsSet p) = lowOf (d .phase)
 lowAfter d (Sample c raw) = lowOf (d .phase)
 lowAfter d (FastSample c v) = lowOf (d .phase)
@@ -86,7 +80,7 @@ NeverTorn =
 abbrev pub GivesStanding : Type 0
 GivesStanding =
     (d : Device) (e : Event) (rs : List Raw) (last : Bool)
-    → lowAfter d e ≡ NotHeld → allOffBus rs ≡ true
+    → lowAfter d e ≡ none → allOffBus rs ≡ true
     → let after = afterOf (stepOf d e .device) rs in
     isReading (after .phase) ≡ true
     → stepOf after (Read last) .answer ≡ Data (readAt (levelIn (after .memory)) (after .memory .bytes) (after .pointer))
@@ -98,11 +92,15 @@ unheld Idle = Idle
 unheld Listening = Listening
 unheld Addressed = Addressed
 unheld (Writing mask) = Writing mask
-unheld (Reading low) = Reading NotHeld
+unheld Reading = Reading
+unheld (ReadingLow low) = Reading
 
 -- the device that holds no low byte, and is otherwise d
 abbrev pub plainly : Device → Device
 plainly d = onBus d (unheld (d .phase)) (d .pointer) (d .page)
+
+abbrev pub plainStep : Stepped → Stepped
+plainStep s = answered (plainly (s .device)) (s .answer)
 
 -- raw events by document 01: no event leaves a low byte held, so that each R in reading gives the byte at the pointer
 unfoldable pub plainAfter : Device → List Raw → Device
@@ -113,6 +111,18 @@ unfoldable pub plainReplies : Device → List Raw → List Reply
 plainReplies d [] = []
 plainReplies d (r ∷ rs) = applyOf d r .reply ∷ plainReplies (plainly (applyOf d r .device)) rs
 
+-- document 01's words for R in reading, by themselves: the byte at the pointer; pointer plus 1, FFh to 00h; idle after a 1
+abbrev pub plainRead : Device → Bool → Stepped
+plainRead d last =
+    answered (onBus d (cond last Idle Reading) ((d .pointer + 1) % 256) (d .page)) (Data (readAt (levelIn (d .memory)) (d .memory .bytes) (d .pointer)))
+
+-- they are what such an R does
+abbrev pub ReadsPlainly : Type 0
+ReadsPlainly =
+    (d : Device) (last : Bool)
+    → isReading (d .phase) ≡ true
+    → plainStep (stepOf (plainly d) (Read last)) ≡ plainRead d last
+
 -- all but the hold, the pointer too, is as by document 01, after every list of events
 abbrev pub SameButHeld : Type 0
 SameButHeld = (d : Device) (rs : List Raw) → plainly (afterOf d rs) ≡ plainAfter (plainly d) rs
@@ -121,7 +131,7 @@ SameButHeld = (d : Device) (rs : List Raw) → plainly (afterOf d rs) ≡ plainA
 abbrev pub SameAnswers : Type 0
 SameAnswers =
     (d : Device) (e : Event)
-    → ((last : Bool) → e ≡ Read last → lowOf (d .phase) ≡ NotHeld)
+    → ((last : Bool) → e ≡ Read last → lowOf (d .phase) ≡ none)
     → stepOf d e .answer ≡ stepOf (plainly d) e .answer
 
 -- no event of the list is an R in reading at an even address of 60h to 68h
@@ -133,7 +143,7 @@ NoHighRead d (r ∷ rs) =
 
 -- such a list is answered as by document 01
 abbrev pub SameWithout : Type 0
-SameWithout = (d : Device) (rs : List Raw) → lowOf (d .phase) ≡ NotHeld → NoHighRead d rs → repliesOf d rs ≡ plainReplies d rs
+SameWithout = (d : Device) (rs : List Raw) → lowOf (d .phase) ≡ none → NoHighRead d rs → repliesOf d rs ≡ plainReplies d rs
 
 -- ---- where a held byte comes from
 
@@ -151,11 +161,11 @@ pub record Since (d : Device) (b : ℕ) : Type 0 where
   pub byte : b ≡ getD (moment .memory .bytes) (d .pointer) 0
 
 -- what R in reading gives a stranger: the public byte at the pointer, of now or of the moment when the high byte was read
-pub data PublicByte (d : Device) : ℕ → Type 0 where
-  of-now : PublicByte d (publicByte (d .memory .bytes) (d .pointer))
-  of-then : (b : ℕ) (s : Since d b) → PublicByte d (publicByte (s .moment .memory .bytes) (d .pointer))
+pub data PublicSource (d : Device) : ℕ → Type 0 where
+  of-now : PublicSource d (publicByte (d .memory .bytes) (d .pointer))
+  of-then : (b : ℕ) (s : Since d b) → PublicSource d (publicByte (s .moment .memory .bytes) (d .pointer))
 
 pub record Gives (d : Device) (last : Bool) : Type 0 where
   pub byte : ℕ
   pub answer : stepOf d (Read last) .answer ≡ Data byte
-  pub public : PublicByte d byte
+  pub source : PublicSource d byte

@@ -39,7 +39,7 @@ fn two_bytes_are_of_one_reading() {
             pair.check();
             let Ok((_, value)) = answer else { continue };
             match e.letter as u8 {
-                b'R' if before.internal[State::PHASE] == 4 => {
+                b'R' if matches!(before.internal[State::PHASE], 4 | 5) => {
                     let pointer = before.internal[State::POINTER];
                     match begun.take() {
                         Some((address, reading)) => {
