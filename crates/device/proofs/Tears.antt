@@ -1,21 +1,20 @@
 -- Document 02, 2.5: by document 01 alone a reading is torn; with the hold, the same events give one reading. And of the theorem's
 -- hypotheses, the one on the device is needed.
 -- Assumes nothing.
-use Prim.Native.Nat.{ℕ, zero, suc}
-use mathlib.Core.Path.{_≡_, refl, sym, ap}
+use Prim.Native.Nat.{ℕ}
+use mathlib.Core.Path.{_≡_, refl, sym, ap, _∙_}
 use mathlib.Core.Logic.{_≢_}
-use mathlib.Core.Bool.{Bool, true, false, not, _&&_}
+use mathlib.Core.Bool.{Bool, true, false, not}
 use mathlib.Core.List.{List, [], _∷_, _++_}
 use native.Mathlib.Omega.{arith}
 use lib.Dec.{eqb}
 use lib.ListN.{getD, take}
-use lib.Seq.{take-nil}
 use borrow.Author.Tests.{eq-eqb}
 use Rattle.memory.specs.Bytes.{wordAt}
 use Rattle.memory.specs.Access.{placeOf, levelOf, classOf, readAt}
 use Rattle.memory.specs.Power.{cycledBytes}
 use Rattle.memory.specs.Image.{imageBytes, imageMemory, verdictOf, loadOf}
-use Rattle.memory.proofs.Bools.{and-true, true-false}
+use Rattle.memory.proofs.Bools.{true-false}
 use Rattle.readings.specs.Readings.{flaggedOf, sampledOf}
 use Rattle.letters.specs.Letters.{decodeOf}
 use Rattle.letters.specs.declared.Event.the-variants.{Read}
@@ -27,13 +26,14 @@ use Rattle.device.specs.Step.{stepOf}
 use Rattle.device.specs.Calls.{startOf, applyOf}
 use Rattle.device.specs.Run.{afterOf, repliesOf}
 use Rattle.device.specs.Secrecy.{fresh}
-use Rattle.device.specs.Torn.{allOffBus, plainly, plainAfter, plainReplies}
+use Rattle.device.specs.Torn.{allOffBus, plainAfter, plainReplies}
 use Rattle.device.specs.declared.Phase.the-variants.{ReadingLow}
 use Rattle.device.specs.declared.Device.{Device}
 use Rattle.device.specs.declared.Answer.the-variants.{Data, Other}
 use Rattle.device.specs.declared.Reply.{Reply}
 use Rattle.device.specs.declared.Reply.the-variants.{Answered}
-use Rattle.device.proofs.Runs.{reached-after}
+use Rattle.device.proofs.Runs.{reached-after, eachTime, any-time}
+use Rattle.device.proofs.Plain.{same-but-held}
 use Rattle.device.proofs.Torn.{never-torn}
 use Rattle.device.proofs.Traffic.{S, B, R, A, write, masterImage}
 
@@ -71,33 +71,25 @@ unfolding afterOf allOffBus placeOf levelOf classOf readAt cycledBytes imageByte
 met-torn =
     never-torn (afterOf start opening) (A 0 0x1A00 ∷ []) true (reached-after opening start (fresh (masterImage 0xA2) refl)) refl refl refl
 
--- ---- no reading was ever 1900h
-
--- T's reading, and tests that compute whether it is another than x: now, and also after each event
+-- T's reading, and a test that computes whether it is another than 1900h
 abbrev readingOfT : Device → ℕ
 readingOfT d = wordAt (d .memory .bytes) 0x60
 
-abbrev another : ℕ → Device → Bool
-another x d = not (eqb (readingOfT d) x)
+abbrev another : Device → Bool
+another d = not (eqb (readingOfT d) 0x1900)
 
-always : ℕ → Device → List Raw → Bool
-always x d [] = another x d
-always x d (r ∷ rs) = another x d && always x (plainly (applyOf d r .device)) rs
+always : eachTime another start (opening ++ reading) ≡ true
+unfolding eachTime placeOf levelOf classOf readAt cycledBytes imageBytes imageMemory verdictOf loadOf flaggedOf sampledOf addressOf restOf readingAt startedOf listenedOf decodeOf startOf applyOf
+always = refl
 
-differs : (x : ℕ) (d : Device) → another x d ≡ true → readingOfT d ≢ x
-differs x d e q = true-false (sym (rw (eq-eqb (readingOfT d) x q) at e))
-
-never : (x : ℕ) (rs : List Raw) (d : Device) → always x d rs ≡ true → (n : ℕ) → readingOfT (plainAfter d (take n rs)) ≢ x
-unfolding always plainAfter
-never x [] d e n = rw (take-nil n) (differs x d e)
-never x (r ∷ rs) d e zero = differs x d (and-true (another x d) (always x (plainly (applyOf d r .device)) rs) e .0)
-never x (r ∷ rs) d e (suc n) =
-    let next = plainly (applyOf d r .device) in
-    never x rs next (and-true (another x d) (always x next rs) e .1) n
-
+-- no reading was ever 1900h, by document 01 either, which has the same bytes
 pub no-such-reading : (n : ℕ) → readingOfT (plainAfter start (take n (opening ++ reading))) ≢ 0x1900
-unfolding always placeOf levelOf classOf readAt cycledBytes imageBytes imageMemory verdictOf loadOf flaggedOf sampledOf addressOf restOf readingAt startedOf listenedOf decodeOf startOf applyOf
-no-such-reading = never 0x1900 (opening ++ reading) start refl
+unfolding startOf
+no-such-reading n q =
+    let rs = take n (opening ++ reading) in
+    let w = readingOfT (afterOf start rs) in
+    let e = any-time another (opening ++ reading) start always n in
+    true-false (sym (rw (eq-eqb w 0x1900 (ap readingOfT (same-but-held start rs) ∙ q)) at e))
 
 -- ---- the hypothesis that the device is a reached one is needed
 
