@@ -115,7 +115,7 @@ plain-phase (Writing mask) e = refl
 plain-phase Reading e = refl
 plain-phase (ReadingLow low) e = absurd (Option·some-ne-none low e)
 
-pub plain-is : (d : Device) → lowOf (d .phase) ≡ none → plainly d ≡ d
+plain-is : (d : Device) → lowOf (d .phase) ≡ none → plainly d ≡ d
 plain-is d e = rw (plain-phase (d .phase) e)
 
 pub same-answers : SameAnswers

@@ -7,7 +7,7 @@ use mathlib.Core.Option.{Option, none, some, Option·getD, Option·some-injectiv
 use mathlib.Core.List.{List, [], _∷_, _++_}
 use native.Mathlib.Omega.{arith}
 use lib.ListN.{getD}
-use Rattle.memory.specs.Access.{levelIn, readAt}
+use Rattle.memory.specs.Access.{levelIn}
 use Rattle.memory.proofs.Bools.{and-true, true-false}
 use Rattle.letters.specs.Letters.{decodeOf}
 use Rattle.letters.specs.declared.Event.{Event}
@@ -20,12 +20,13 @@ use Rattle.device.specs.Step.{stepOf}
 use Rattle.device.specs.Calls.{startOf, appliedTo, applyOf}
 use Rattle.device.specs.Run.{afterOf}
 use Rattle.device.specs.Secrecy.{Reached, fresh, later}
-use Rattle.device.specs.Torn.{lowAfter, offBus, offBusBy, allOffBus, Since}
+use Rattle.device.specs.Torn.{lowAfter, offBus, offBusBy, allOffBus, standing, Since}
 use Rattle.device.specs.declared.Phase.{Phase}
 use Rattle.device.specs.declared.Phase.the-variants.{Idle, Listening, Addressed, Writing, Reading, ReadingLow}
 use Rattle.device.specs.declared.Device.{Device}
 use Rattle.device.specs.declared.Answer.the-variants.{Data}
 use Rattle.device.proofs.Low.{is-high}
+use Rattle.device.proofs.Runs.{after-append}
 use Rattle.device.proofs.Steps.{heard-phase}
 
 -- ---- the hold, event by event
@@ -39,6 +40,7 @@ byte-low (Writing mask) d v e = refl
 byte-low Reading d v e = ap lowOf e
 byte-low (ReadingLow low) d v e = refl
 
+-- what is held after an R in reading that is acknowledged
 low-at : (b : List ℕ) (p : ℕ) → lowOf (readingAt b p) ≡ cond (hasHigh p) (some (getD b (p + 1) 0)) none
 unfolding readingAt
 low-at b p = go (hasHigh p)
@@ -73,17 +75,17 @@ low-after d (FastSample c v) = refl
 
 -- ---- R in reading
 
-pub read-answer : (p : Phase) (l : ℕ) (d : Device) (last : Bool) → isReading p ≡ true
-    → readIn p l d last .answer ≡ Data (Option·getD (lowOf p) (readAt l (d .memory .bytes) (d .pointer)))
-read-answer p l d last r = rw r
+pub read-answer : (d : Device) (last : Bool) → isReading (d .phase) ≡ true
+    → stepOf d (Read last) .answer ≡ Data (Option·getD (lowOf (d .phase)) (standing d))
+read-answer d last r = rw r
 
 -- the phase and the pointer of a device
 abbrev pub Placed : Device → Phase → ℕ → Type 0
 Placed d p q = (d .phase ≡ p) × (d .pointer ≡ q)
 
-pub read-placed : (p : Phase) (l : ℕ) (d : Device) → isReading p ≡ true
-    → Placed (readIn p l d false .device) (readingAt (d .memory .bytes) (d .pointer)) ((d .pointer + 1) % 256)
-read-placed p l d r = rw r (refl, refl)
+pub read-placed : (d : Device) → isReading (d .phase) ≡ true
+    → Placed (stepOf d (Read false) .device) (readingAt (d .memory .bytes) (d .pointer)) ((d .pointer + 1) % 256)
+read-placed d r = rw r (refl, refl)
 
 -- events that are neither of the bus nor C leave both
 off-placed : (d : Device) (e : Event) → offBus e ≡ true → Placed (stepOf d e .device) (d .phase) (d .pointer)
@@ -130,13 +132,8 @@ off-append (x ∷ rs) r o q =
     let h = and-true (offBusBy (decodeOf x)) (allOffBus rs) o in
     rw (h .0) (off-append rs r (h .1) q)
 
-after-append : (rs : List Raw) (r : Raw) (d : Device) → afterOf d (rs ++ (r ∷ [])) ≡ applyOf (afterOf d rs) r .device
-unfolding afterOf
-after-append [] r d = refl
-after-append (x ∷ rs) r d = after-append rs r (applyOf d x .device)
-
 since-more : (d : Device) (r : Raw) (b : ℕ) → offBusBy (decodeOf r) ≡ true → Since d b → Since (applyOf d r .device) b
-unfolding applyOf
+unfolding applyOf afterOf
 since-more d r b q s =
     let stays = applied-placed d (decodeOf r) q .1 in
     record {
@@ -145,8 +142,8 @@ since-more d r b q s =
       reached = s .reached;
       reading = s .reading;
       high = s .high;
-      off = off-append (s .events) r (s .off) q;
-      led = ap (λ (x : Device). applyOf x r .device) (s .led) ∙ sym (after-append (s .events) r (stepOf (s .moment) (Read false) .device));
+      between = off-append (s .events) r (s .between) q;
+      led = ap (λ (x : Device). applyOf x r .device) (s .led) ∙ sym (after-append (s .events) (r ∷ []) (stepOf (s .moment) (Read false) .device));
       pointer = stays ∙ s .pointer;
       byte = s .byte ∙ ap (λ (p : ℕ). getD (s .moment .memory .bytes) p 0) (sym stays);
     }
@@ -159,14 +156,14 @@ since-read d false b h e =
     let g = begun (isReading (d .phase)) false (hasHigh (d .pointer)) b (getD (d .memory .bytes) (d .pointer + 1) 0) e in
     let to = is-high (d .pointer) (g .1 .1 .0) .to in
     let small : (d .pointer + 1) % 256 ≡ d .pointer + 1 = omega arith in
-    let pointer = read-placed (d .phase) (levelIn (d .memory)) d (g .0) .1 ∙ small in
+    let pointer = read-placed d (g .0) .1 ∙ small in
     record {
       moment = d;
       events = [];
       reached = h;
       reading = g .0;
       high = g .1 .1 .0;
-      off = refl;
+      between = refl;
       led = refl;
       pointer = pointer;
       byte = g .1 .1 .1 ∙ ap (λ (p : ℕ). getD (d .memory .bytes) p 0) (sym pointer);

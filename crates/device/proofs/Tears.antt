@@ -35,7 +35,7 @@ use Rattle.device.specs.declared.Reply.the-variants.{Answered}
 use Rattle.device.proofs.Runs.{reached-after, eachTime, any-time}
 use Rattle.device.proofs.Plain.{same-but-held}
 use Rattle.device.proofs.Torn.{never-torn}
-use Rattle.device.proofs.Traffic.{S, B, R, A, write, masterImage}
+use Rattle.device.proofs.Traffic.{R, A, readFrom, masterImage}
 
 -- ---- a list that tears
 
@@ -44,7 +44,7 @@ start = startOf (masterImage 0xA2) .device
 
 -- T is 25.9375 °C, 19F0h; its reading is addressed, and between its two bytes T becomes 26 °C, 1A00h
 abbrev opening : List Raw
-opening = A 0 0x19F0 ∷ write 0x60 [] ++ (S ∷ B 0xA3 ∷ [])
+opening = A 0 0x19F0 ∷ readFrom 0x60
 
 abbrev reading : List Raw
 reading = R 0 ∷ A 0 0x1A00 ∷ R 1 ∷ []

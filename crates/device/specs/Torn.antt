@@ -76,6 +76,10 @@ NeverTorn =
     let second = stepOf (afterOf (first .device) rs) (Read last) in
     (first .answer ≡ Data (getD bytes (d .pointer) 0)) × (second .answer ≡ Data (getD bytes (d .pointer + 1) 0))
 
+-- the byte that stands at the pointer, as the level lets it be read
+abbrev pub standing : Device → ℕ
+standing d = readAt (levelIn (d .memory)) (d .memory .bytes) (d .pointer)
+
 -- after an event that leaves nothing held, as every S, E, B and C does, R in reading gives the byte that stands at the pointer
 abbrev pub GivesStanding : Type 0
 GivesStanding =
@@ -83,7 +87,7 @@ GivesStanding =
     → lowAfter d e ≡ none → allOffBus rs ≡ true
     → let after = afterOf (stepOf d e .device) rs in
     isReading (after .phase) ≡ true
-    → stepOf after (Read last) .answer ≡ Data (readAt (levelIn (after .memory)) (after .memory .bytes) (after .pointer))
+    → stepOf after (Read last) .answer ≡ Data (standing after)
 
 -- ---- document 01 without the hold
 
@@ -113,8 +117,7 @@ plainReplies d (r ∷ rs) = applyOf d r .reply ∷ plainReplies (plainly (applyO
 
 -- document 01's words for R in reading, by themselves: the byte at the pointer; pointer plus 1, FFh to 00h; idle after a 1
 abbrev pub plainRead : Device → Bool → Stepped
-plainRead d last =
-    answered (onBus d (cond last Idle Reading) ((d .pointer + 1) % 256) (d .page)) (Data (readAt (levelIn (d .memory)) (d .memory .bytes) (d .pointer)))
+plainRead d last = answered (onBus d (cond last Idle Reading) ((d .pointer + 1) % 256) (d .page)) (Data (standing d))
 
 -- they are what such an R does
 abbrev pub ReadsPlainly : Type 0
@@ -155,7 +158,7 @@ pub record Since (d : Device) (b : ℕ) : Type 0 where
   pub reached : Reached moment
   pub reading : isReading (moment .phase) ≡ true
   pub high : hasHigh (moment .pointer) ≡ true
-  pub off : allOffBus events ≡ true
+  pub between : allOffBus events ≡ true
   pub led : d ≡ afterOf (stepOf moment (Read false) .device) events
   pub pointer : d .pointer ≡ moment .pointer + 1
   pub byte : b ≡ getD (moment .memory .bytes) (d .pointer) 0
