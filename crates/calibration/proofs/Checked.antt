@@ -10,7 +10,7 @@ use native.Mathlib.Omega.{arith}
 use lib.Dec.{eqb}
 use lib.ListN.{length, getD, take, set, length-set}
 use lib.Seq.{length-take-le, take-set-lt, take-set-le, getD-set-same, getD-set-other, getD-take}
-use borrow.Author.Tests.{ne-eqb, eqb-true}
+use borrow.Author.Tests.{eq-eqb, ne-eqb, eqb-true}
 use Rattle.memory.specs.Refusals.{numberOf}
 use Rattle.memory.specs.declared.Refusal.the-variants.{MemorySize, Checksum, Coefficient}
 use Rattle.calibration.specs.Calibration.{lowerSize, checksumOf, allFinite, valuesOf, calibratedOf}
@@ -66,6 +66,11 @@ one-byte-changed l i v raws h old new ne was = rw (length-set l i v) (go (eqb (l
         let n = eqb-true (length l) lowerSize e in
         rw (ne-eqb (checksumOf (set l i v)) (getD (set l i v) 0x5F 0) (changed l i v (omega arith) h old new ne was))
     go false e = refl
+
+-- with 128 bytes, the checksum and finite coefficients values are given, whatever they are: an infinity too
+pub always-given : (l : List ℕ) (raws : Raws) → length l ≡ lowerSize → Checks l → allFinite l ≡ true → calibratedOf l raws ≡ Given (valuesOf l raws)
+unfolding calibratedOf
+always-given l raws n c f = rw (eq-eqb (length l) lowerSize n, eq-eqb (checksumOf l) (getD l 0x5F 0) c, f)
 
 -- every call gives values, or one of 17 to 19 with line 0
 abbrev pub Told : Calibrated → Type 0
