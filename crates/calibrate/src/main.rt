@@ -41,7 +41,7 @@ fn complain(text: &[u8]) {
 fn complain_of(line: u64) {
     complain(b"line ");
     io::print_decimal(STDERR_FILENO, line);
-    complain(b": not five numbers of 0 to 65535, T V B P R, with a space between two\n");
+    complain(b": not five numbers of 0 to 65535, T V B P R, a space between two and a line feed at the end\n");
 }
 
 // The values of one line; false where the memory is refused.
