@@ -28,7 +28,7 @@ pub struct Values {
     pub bias: i32,
     /// P, in 0.1 µW.
     pub transmitted: i32,
-    /// R, in 0.1 µW; it may be infinite, and is always a number.
+    /// R, in 0.1 µW; it may be infinite, and is never a NaN.
     pub received: f32,
 }
 
