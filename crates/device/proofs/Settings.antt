@@ -17,6 +17,7 @@ use Rattle.memory.proofs.Shown.{without-get, settings-stored}
 use Rattle.readings.specs.Readings.{sampledOf, takenOf}
 use Rattle.readings.specs.declared.Channel.the-variants.{Temperature}
 use Rattle.readings.proofs.Places.{reading-there}
+use Rattle.readings.proofs.Shifts.{unshifted}
 use Rattle.settings.specs.Settings.{entryAfter, settledOf}
 use Rattle.settings.proofs.Hysteresis.{settled-stays}
 use Rattle.settings.proofs.Open.{SameTables, outputs-same, table-place, table-open}
@@ -54,7 +55,9 @@ entry-begins d (by-cycle b h) = refl
 pub entry-follows : (d : Device) (raw : ℕ) → length (d .memory .bytes) ≡ places → bitOf 2 (controlOf (d .memory .bytes)) ≡ true
     → currentEntry (stepOf d (Sample Temperature raw) .device) ≡ entryAfter (currentEntry d) (toZ w16 (raw / 16 * 16))
 unfolding settledOf
-entry-follows d raw size taken = rw (taken, reading-there (d .memory .bytes) Temperature raw (omega arith) taken)
+entry-follows d raw size taken =
+    let b = d .memory .bytes in
+    rw (taken, reading-there b Temperature raw (omega arith) taken, unshifted b Temperature raw refl)
 
 -- an event leaves entry i exactly if it is one of those that `Leaves` tells
 pub event-leaves : (i : ℕ) (d : Device) (e : Event) → currentEntry d ≡ i → (currentEntry (stepOf d e .device) ≡ i) ↔ Leaves i d e
@@ -68,7 +71,7 @@ event-leaves i d PowerCycle h = (λ q. sym q, λ t. sym t)
 event-leaves i d (PinsSet p) h = (λ q. tt, λ t. h)
 event-leaves i d (Sample c raw) h =
     let b = d .memory .bytes in
-    rw h (settled-stays i (sampledOf b c raw) c (takenOf b))
+    rw h (settled-stays i (sampledOf b c raw) c (takenOf b c raw))
 event-leaves i d (FastSample c v) h = (λ q. tt, λ t. h)
 
 applied-leaves : (i : ℕ) (d : Device) (x : Decoded) → currentEntry d ≡ i → (currentEntry (appliedTo d x .device) ≡ i) ↔ LeavesBy i d x

@@ -60,7 +60,8 @@ fn check(rack: &[Pair], sweeps: &[Sweep]) -> (u64, usize) {
     let before = ALLOCATIONS.load(Ordering::Relaxed);
     for sweep in sweeps {
         for ((linked, model), &(channel, raw)) in linked.iter_mut().zip(&mut model).zip(sweep) {
-            assert_eq!(linked.apply(ds1852::Event::sample(channel, raw)), Ok(ds1852::Answer::Other(1)));
+            let answer = linked.apply(ds1852::Event::sample(channel, raw));
+            assert!(matches!(answer, Ok(ds1852::Answer::Other(1..=2))), "{answer:?}");
             let told = model.sample_and_ask(channel, raw);
             assert_eq!(linked.flags_up(), told);
             sum += u64::from(told);
