@@ -119,9 +119,9 @@ fn worked_cases() {
         (0x4800, 4, 40_000, 0x9C40, 0x09C4, 1),
         (0x5800, 7, 40_000, 0xFFF0, 0x01FF, 2),
         (0x4800, 1, 100, 0x0060, 0x0030, 1),
-        // The product is 65535: the limit cuts nothing. Nor does it at 65027 * 129 / 128, which is 65535.02.
+        // The product is 65535: the limit cuts nothing. Nor does it at 49146 * 2731 / 2048, which is 65535.999.
         (0x4800, 0, 65_535, 0xFFF0, 0xFFF0, 1),
-        (0x8081, 0, 65_027, 0xFFF0, 0xFFF0, 1),
+        (0x4AAB, 0, 49_146, 0xFFF0, 0xFFF0, 1),
         // 65536 is cut, and 65534 is not.
         (0x8100, 0, 32_768, 0xFFF0, 0xFFF0, 2),
         (0x8100, 3, 32_767, 0xFFF0, 0x1FFE, 1),
