@@ -5,8 +5,9 @@ use mathlib.Core.Path.{_≡_, refl, ap}
 use mathlib.Core.List.{List, [], _∷_, _++_, map}
 use native.Mathlib.Omega.{arith}
 use lib.ListN.{take}
+use Rattle.memory.specs.Bytes.{withBit, maskOf}
 use Rattle.memory.specs.Access.{placeOf, levelOf, classOf, writableAt}
-use Rattle.memory.specs.Page.{storeOf, pageOf}
+use Rattle.memory.specs.Page.{putOf}
 use Rattle.memory.specs.Power.{cycledBytes}
 use Rattle.memory.specs.Image.{imageBytes, imageMemory, verdictOf, loadOf}
 use Rattle.memory.specs.declared.Refusal.{Refusal}
@@ -16,7 +17,7 @@ use Rattle.readings.specs.Raised.{onesOf, raisedFrom, raisedIn, raisedAfter}
 use Rattle.readings.proofs.Raised.{raised-le}
 use Rattle.letters.specs.Letters.{decodeOf}
 use Rattle.letters.specs.declared.Raw.{Raw}
-use Rattle.device.specs.Bus.{addressOf, holding, restOf, startedOf, listenedOf, gatheredOf, stoppedAt}
+use Rattle.device.specs.Bus.{addressOf, restOf, startedOf, listenedOf, gatheredOf, stoppedAt}
 use Rattle.device.specs.Calls.{startOf, applyOf}
 use Rattle.device.specs.Run.{afterOf}
 use Rattle.device.specs.Told.{flagsUp}
@@ -80,5 +81,5 @@ told =
     ∷ []
 
 pub flags-worked : map (λ (rs : List Raw). flagsUp (afterOf device rs)) told ≡ 1 ∷ 3 ∷ 3 ∷ 1 ∷ 4 ∷ 3 ∷ 11 ∷ 1 ∷ []
-unfolding onesOf raisedFrom raisedAfter flaggedOf sampledOf fastOf placeOf levelOf classOf writableAt storeOf pageOf cycledBytes imageBytes imageMemory verdictOf loadOf addressOf holding restOf startedOf listenedOf gatheredOf stoppedAt decodeOf startOf applyOf afterOf
+unfolding onesOf raisedFrom raisedAfter flaggedOf sampledOf fastOf placeOf levelOf classOf writableAt withBit maskOf putOf cycledBytes imageBytes imageMemory verdictOf loadOf addressOf restOf startedOf listenedOf gatheredOf stoppedAt decodeOf startOf applyOf afterOf
 flags-worked = refl
