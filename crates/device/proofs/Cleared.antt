@@ -14,7 +14,7 @@ use Rattle.memory.specs.Power.{cycledBytes}
 use Rattle.memory.specs.Image.{imageBytes, imageMemory, verdictOf, loadOf}
 use Rattle.readings.specs.Readings.{flaggedOf, sampledOf, fastOf}
 use Rattle.readings.specs.Measured.{supplyAlarm}
-use Rattle.letters.specs.Letters.{decodeOf}
+use Rattle.letters.specs.Letters.{kindOf, decodeOf}
 use Rattle.letters.specs.declared.Raw.{Raw}
 use Rattle.device.specs.Bus.{addressOf, restOf, startedOf, listenedOf, gatheredOf, stoppedAt}
 use Rattle.device.specs.Calls.{startOf, applyOf}
@@ -50,7 +50,7 @@ pub record Measuring (rs : List Raw) (r : Raw) (up : Bool) : Type 0 where
   pub alarm : supplyAlarm (afterOf device (rs ++ (r ∷ [])) .memory .bytes) ≡ up
 
 computed : Measuring unmeasured (A 1 40000) false × (Measuring unmeasured (A 1 20000) true × Measuring (writeControl 0x24 ++ write 0x70 (0 ∷ [])) E false)
-unfolding measures beforeMeasured flaggedOf sampledOf fastOf placeOf levelOf classOf writableAt withBit maskOf putOf cycledBytes imageBytes imageMemory verdictOf loadOf addressOf restOf startedOf listenedOf gatheredOf stoppedAt decodeOf startOf applyOf afterOf
+unfolding measures beforeMeasured flaggedOf sampledOf fastOf placeOf levelOf classOf writableAt withBit maskOf putOf cycledBytes imageBytes imageMemory verdictOf loadOf addressOf restOf startedOf listenedOf gatheredOf stoppedAt kindOf decodeOf startOf applyOf afterOf
 computed = (record { first = refl; alarm = refl }, (record { first = refl; alarm = refl }, record { first = refl; alarm = refl }))
 
 -- 40,000 is not below the low alarm

@@ -15,7 +15,7 @@ use Rattle.memory.specs.declared.Verdict.the-variants.{Accepted}
 use Rattle.readings.specs.Readings.{flaggedOf, sampledOf, fastOf}
 use Rattle.readings.specs.Raised.{onesOf, raisedFrom, raisedIn, raisedAfter}
 use Rattle.readings.proofs.Raised.{raised-le}
-use Rattle.letters.specs.Letters.{decodeOf}
+use Rattle.letters.specs.Letters.{kindOf, decodeOf}
 use Rattle.letters.specs.declared.Raw.{Raw}
 use Rattle.device.specs.Bus.{addressOf, restOf, startedOf, listenedOf, gatheredOf, stoppedAt}
 use Rattle.device.specs.Calls.{startOf, applyOf}
@@ -24,7 +24,7 @@ use Rattle.device.specs.Told.{flagsUp}
 use Rattle.device.specs.Secrecy.{Alike, Stranger, Reached, fresh}
 use Rattle.device.specs.declared.Device.{Device}
 use Rattle.device.specs.declared.Reply.the-variants.{Refused}
-use Rattle.device.proofs.Rulings.{refused-left}
+use Rattle.device.proofs.SingleEvent.{refused-left}
 use Rattle.device.proofs.Runs.{reached-after}
 use Rattle.device.proofs.Secrecy.{secrecy}
 use Rattle.device.proofs.Sound.{reached-sound}
@@ -81,5 +81,5 @@ told =
     ∷ []
 
 pub flags-worked : map (λ (rs : List Raw). flagsUp (afterOf device rs)) told ≡ 1 ∷ 3 ∷ 3 ∷ 1 ∷ 4 ∷ 3 ∷ 11 ∷ 1 ∷ []
-unfolding onesOf raisedFrom raisedAfter flaggedOf sampledOf fastOf placeOf levelOf classOf writableAt withBit maskOf putOf cycledBytes imageBytes imageMemory verdictOf loadOf addressOf restOf startedOf listenedOf gatheredOf stoppedAt decodeOf startOf applyOf afterOf
+unfolding onesOf raisedFrom raisedAfter flaggedOf sampledOf fastOf placeOf levelOf classOf writableAt withBit maskOf putOf cycledBytes imageBytes imageMemory verdictOf loadOf addressOf restOf startedOf listenedOf gatheredOf stoppedAt kindOf decodeOf startOf applyOf afterOf
 flags-worked = refl
