@@ -20,24 +20,6 @@ loop-holds : tie.Need-loop-holds Inv-loop μ-loop
 unfolding maskOf
 loop-holds c = (omega arith, refl)
 
-bit-of-requires : tie.Need-bit-of-requires Inv-loop μ-loop
-bit-of-requires c κs = search needs
-
-add-writable-by : tie.Need-add-writable-by Inv-loop μ-loop
-add-writable-by c = omega arith
-
-writable-by-requires : tie.Need-writable-by-requires Inv-loop μ-loop
-writable-by-requires c κs = search needs
-
-with-bit-requires : tie.Need-with-bit-requires Inv-loop μ-loop
-with-bit-requires c κs = search needs
-
-add-i : tie.Need-add-i Inv-loop μ-loop
-add-i c = omega arith
-
-loop-less : tie.Need-loop-less Inv-loop μ-loop
-loop-less c = omega arith
-
 loop-again : tie.Need-loop-again Inv-loop μ-loop
 unfolding maskOf
 loop-again c =
@@ -66,11 +48,11 @@ stores-by-spec =
     Inv-loop
     μ-loop
     loop-holds
-    bit-of-requires
-    add-writable-by
-    writable-by-requires
-    with-bit-requires
-    add-i
-    loop-less
+    (λ c κs. search needs)
+    (λ c. omega arith)
+    (λ c κs. search needs)
+    (λ c κs. search needs)
+    (λ c. omega arith)
+    (λ c. omega arith)
     loop-again
     returns)
