@@ -1,4 +1,4 @@
--- A single event: answered exactly where it is in range, and left by a refusal.
+-- A single event: one that is in range is answered, any other is refused, and a refusal leaves the device.
 -- Assumes nothing.
 use Prim.Native.Nat.{ℕ}
 use mathlib.Core.Path.{_≡_, refl, sym, ap, subst, _∙_}
