@@ -1,0 +1,2 @@
+-- The law of the rooms.
+pub mod Rooms
