@@ -145,6 +145,6 @@ marked =
 abbrev table : List Row
 table = limited ++ tripped ++ marked
 
-pub flags-worked : map (λ (r : Row). r .found) table ≡ map (λ (r : Row). r .said) table
+pub flags-table : map (λ (r : Row). r .found) table ≡ map (λ (r : Row). r .said) table
 unfolding withBit flaggedOf sampledOf fastOf
-flags-worked = refl
+flags-table = refl
