@@ -4,28 +4,36 @@ use Prim.Native.Nat.{ℕ, _<_, _≤_}
 use mathlib.Core.Path.{_≡_, refl, sym, _∙_}
 use mathlib.Core.Logic.{_≢_, _⊎_, inl, inr, _↔_, Iff·rfl, ⊎-elim}
 use mathlib.Core.Bool.{Bool, true, false, not, _&&_, _||_}
-use mathlib.Core.List.{List, [], _∷_}
+use mathlib.Core.List.{List, [], _∷_, _++_}
 use native.Mathlib.Omega.{arith}
 use lib.Dec.{leb, eqb}
 use borrow.Author.Tests.{ne-eqb, eqb-false, lt-leb, leb-false}
-use Rattle.memory.specs.Bytes.{within}
-use Rattle.memory.specs.Access.{levelIn}
+use Rattle.memory.specs.Bytes.{within, withBit, maskOf}
+use Rattle.memory.specs.Access.{placeOf, levelOf, levelIn, classOf, writableAt}
+use Rattle.memory.specs.Page.{putOf}
+use Rattle.memory.specs.Power.{cycledBytes}
+use Rattle.memory.specs.Image.{imageBytes, imageMemory, blankMemory, verdictOf, loadOf}
 use Rattle.memory.proofs.Bools.{and-true, true-false, above-range}
-use Rattle.letters.specs.Letters.{Decoded, Known, OutOfRange, UnknownLetter, decodeOf}
+use Rattle.letters.specs.Letters.{kindOf, Decoded, Known, OutOfRange, UnknownLetter, decodeOf}
 use Rattle.letters.specs.declared.Event.{Event}
 use Rattle.letters.specs.declared.Event.the-variants.{Start, Stop, Byte, Read, WriteDone, PowerCycle, PinsSet, Sample, FastSample}
 use Rattle.letters.specs.declared.Raw.{Raw}
-use Rattle.device.specs.Bus.{heldOf, cycleBegins, startedOf, listenedOf, byteIn, stoppedAt}
+use Rattle.device.specs.State.{noPage, onBus, withBusy, atRest}
+use Rattle.device.specs.Bus.{addressOf, heldOf, restOf, cycleBegins, startedOf, listenedOf, gatheredOf, byteIn, stoppedAt}
 use Rattle.device.specs.Step.{stepOf}
 use Rattle.device.specs.Calls.{startOf, appliedTo, applyOf}
 use Rattle.device.specs.Run.{afterOf}
+use Rattle.device.specs.Secrecy.{Reached}
 use Rattle.device.specs.Busy.{endsBusy, endsBusyBy, noneEndsBusy, BusyBegins, FreeAtStart, Silent, BusySilent}
 use Rattle.device.specs.declared.Phase.{Phase}
 use Rattle.device.specs.declared.Phase.the-variants.{Idle, Listening, Addressed, Writing, Reading, ReadingLow}
-use Rattle.device.specs.declared.Answer.the-variants.{NotAcknowledged}
+use Rattle.device.specs.declared.Answer.the-variants.{Acknowledged, NotAcknowledged}
 use Rattle.device.specs.declared.Device.{Device}
 use Rattle.device.proofs.Steps.{byte-kept, clock-kept}
+use Rattle.device.proofs.Runs.{reached-after}
 use Rattle.device.proofs.Sound.{Sound, not-busy, sound-applied, reached-sound}
+use Rattle.device.proofs.Traffic.{E, write}
+use Rattle.device.proofs.Witness.{one, reached-one}
 
 -- ---- which events begin it, leave it and end it
 
@@ -116,3 +124,21 @@ silent (r ∷ rs) d s b h =
 
 pub busy-silent : BusySilent
 busy-silent d rs r b h = silent rs d (reached-sound d r) b h
+
+-- ---- its hypotheses
+
+-- a stop after a byte to 00h, which a stranger may not write, leads to such a device
+abbrev busyOne : Device
+busyOne = afterOf one (write 0x00 (1 ∷ []) ++ (E ∷ []))
+
+pub met-busy : Reached busyOne × (busyOne .internal .busy ≡ true)
+unfolding afterOf applyOf placeOf levelOf classOf writableAt withBit maskOf putOf cycledBytes imageBytes imageMemory verdictOf loadOf addressOf restOf startedOf listenedOf gatheredOf stoppedAt kindOf decodeOf startOf
+met-busy = (reached-after (write 0x00 (1 ∷ []) ++ (E ∷ [])) one reached-one, refl)
+
+-- a made-up device that is busy and addressed acknowledges a byte: that it is a reached one is needed
+pub silent-needs-reached : ((d : Device) → d .internal .busy ≡ true → Silent d) → ⊥
+silent-needs-reached claim =
+    let d = withBusy (onBus (atRest blankMemory) Addressed 0x00 noPage) true in
+    let e : Acknowledged ≡ NotAcknowledged = claim d refl .answer 0x00 in
+    let z : _≡_ {A = ℕ} 0 1 = cc in
+    omega arith
