@@ -33,7 +33,7 @@ use Rattle.device.proofs.Runs as R
 use Rattle.device.proofs.Steps.{heard-phase}
 
 -- the low byte that a phase holds, or 0
-abbrev lowIn : Phase → ℕ
+abbrev pub lowIn : Phase → ℕ
 lowIn p = Option·getD (lowOf p) 0
 
 pub record Bytes (d : Device) : Type 0 where

@@ -35,7 +35,7 @@ take-bytes zero l h = none-bytes
 take-bytes (suc n) [] h = none-bytes
 take-bytes (suc n) (x ∷ l) h = more-bytes x (take n l) (h 0) (take-bytes n l (λ i. h (suc i)))
 
-drop-bytes : (n : ℕ) (l : List ℕ) → AllBytes l → AllBytes (drop n l)
+pub drop-bytes : (n : ℕ) (l : List ℕ) → AllBytes l → AllBytes (drop n l)
 drop-bytes zero l h = h
 drop-bytes (suc n) [] h = none-bytes
 drop-bytes (suc n) (x ∷ l) h = drop-bytes n l (λ i. h (suc i))
