@@ -36,7 +36,7 @@ use Rattle.device.proofs.Steps.{heard-phase}
 abbrev pub lowIn : Phase → ℕ
 lowIn p = Option·getD (lowOf p) 0
 
-pub record Bytes (d : Device) : Type 0 where
+pub record HoldsBytes (d : Device) : Type 0 where
   pub memory : AllBytes (d .memory .bytes)
   pub page : AllBytes (d .internal .page)
   pub low : lowIn (d .internal .phase) < 256
@@ -44,7 +44,7 @@ pub record Bytes (d : Device) : Type 0 where
 no-page : AllBytes noPage
 no-page = replicate-bytes 8 0 (omega arith)
 
-byte-bytes : (p : Phase) (d : Device) (x : ℕ) → x < 256 → Bytes d → Bytes (byteIn p d x .device)
+byte-bytes : (p : Phase) (d : Device) (x : ℕ) → x < 256 → HoldsBytes d → HoldsBytes (byteIn p d x .device)
 unfolding listenedOf gatheredOf
 byte-bytes Idle d x h b = b
 byte-bytes Listening d x h b = record { memory = b .memory; page = b .page; low = rw (heard-phase lowIn 0 refl refl refl _ _) (omega arith) }
@@ -59,7 +59,7 @@ next-low : (last : Bool) (bytes : List ℕ) (p : ℕ) → AllBytes bytes → low
 next-low true bytes p h = omega arith
 next-low false bytes p h = by-high (λ (q : Phase). lowIn q < 256) bytes p (omega arith) (λ g. h (p + 1))
 
-clock-bytes : (p : Phase) (l : ℕ) (d : Device) (last : Bool) → Bytes d → Bytes (readIn p l d last .device)
+clock-bytes : (p : Phase) (l : ℕ) (d : Device) (last : Bool) → HoldsBytes d → HoldsBytes (readIn p l d last .device)
 clock-bytes Idle l d last b = b
 clock-bytes Listening l d last b = b
 clock-bytes Addressed l d last b = b
@@ -79,10 +79,10 @@ pins-byte p = go (p .d) (p .rs) (p .f) (p .l)
     go d rs f l = omega (arith, most d 128, most rs 16, most f 4, most l 2)
 
 -- other bytes of the memory
-with-bytes : (d : Device) (n : Device) → AllBytes (n .memory .bytes) → n .internal .page ≡ d .internal .page → n .internal .phase ≡ d .internal .phase → Bytes d → Bytes n
+with-bytes : (d : Device) (n : Device) → AllBytes (n .memory .bytes) → n .internal .page ≡ d .internal .page → n .internal .phase ≡ d .internal .phase → HoldsBytes d → HoldsBytes n
 with-bytes d n h p q b = record { memory = h; page = rw p (b .page); low = rw q (b .low) }
 
-step-bytes : (l : ℕ) (d : Device) (e : Event) → Fits e → Bytes d → Bytes (stepAt l d e .device)
+step-bytes : (l : ℕ) (d : Device) (e : Event) → Fits e → HoldsBytes d → HoldsBytes (stepAt l d e .device)
 unfolding startedOf stoppedAt
 step-bytes l d Start h b = record { memory = b .memory; page = no-page; low = omega arith }
 step-bytes l d Stop h b =
@@ -97,7 +97,7 @@ step-bytes l d (PinsSet p) h b = with-bytes d _ (set-bytes (d .memory .bytes) 0x
 step-bytes l d (Sample c raw) h b = with-bytes d _ (sampled-bytes (d .memory .bytes) c raw h (b .memory)) refl refl b
 step-bytes l d (FastSample c v) h b = with-bytes d _ (fast-bytes (d .memory .bytes) c v (b .memory)) refl refl b
 
-pub start-bytes : (image : List ℕ) → startOf image .verdict ≡ Accepted → AllBytes image → Bytes (startOf image .device)
+pub start-bytes : (image : List ℕ) → startOf image .verdict ≡ Accepted → AllBytes image → HoldsBytes (startOf image .device)
 unfolding startOf
 start-bytes image e h = record { memory = loaded-bytes image e h; page = no-page; low = omega arith }
 
@@ -116,7 +116,7 @@ byte-value (Writing mask) d x = refl
 byte-value Reading d x = refl
 byte-value (ReadingLow low) d x = refl
 
-clock-value : (p : Phase) (l : ℕ) (d : Device) (last : Bool) → lowIn p < 256 → Bytes d → valueOf (readIn p l d last .answer) < 256
+clock-value : (p : Phase) (l : ℕ) (d : Device) (last : Bool) → lowIn p < 256 → HoldsBytes d → valueOf (readIn p l d last .answer) < 256
 clock-value Idle l d last h b = omega arith
 clock-value Listening l d last h b = omega arith
 clock-value Addressed l d last h b = omega arith
@@ -124,7 +124,7 @@ clock-value (Writing mask) l d last h b = omega arith
 clock-value Reading l d last h b = read-byte l (d .memory .bytes) (d .internal .pointer) (b .memory)
 clock-value (ReadingLow low) l d last h b = h
 
-step-value : (l : ℕ) (d : Device) (e : Event) → Bytes d → valueOf (stepAt l d e .answer) < 256
+step-value : (l : ℕ) (d : Device) (e : Event) → HoldsBytes d → valueOf (stepAt l d e .answer) < 256
 step-value l d Start b = omega arith
 step-value l d Stop b = omega arith
 step-value l d (Byte x) b = omega (arith, byte-value (d .internal .phase) d x)
@@ -135,7 +135,7 @@ step-value l d (PinsSet p) b = omega arith
 step-value l d (Sample c raw) b = omega (arith, taken-most (d .memory .bytes) c raw)
 step-value l d (FastSample c v) b = omega arith
 
-pub answer-bytes : {es : List Event} (d : Device) → Bytes d → InRange es → AllBytes (map valueOf (answersOf d es))
+pub answer-bytes : {es : List Event} (d : Device) → HoldsBytes d → InRange es → AllBytes (map valueOf (answersOf d es))
 unfolding answersOf
 answer-bytes d b R.none = replicate-bytes 0 0 (omega arith)
 answer-bytes d b (R.more e es q h) =

@@ -27,15 +27,16 @@ use Rattle.log.specs.declared.Outcome.the-variants as Outcomes
 use Rattle.log.proofs.Refused.{run-returns, write-returns}
 use Rattle.log.proofs.LineCount.{refused-line}
 use Rattle.calibration.specs.Calibration.{calibratedOf, CalibrateRefused, memory-size, checksum, coefficient, isGiven}
+use Rattle.calibration.specs.declared.Raws.{Raws}
 use Rattle.calibration.specs.declared.Calibrated.{Calibrated}
 use Rattle.calibration.specs.declared.Calibrated.the-variants as Calibrations
 use Rattle.calibration.proofs.Checked.{calibrate-returns}
 use Rattle.host.specs.State.{Lent, deviceOf}
 use Rattle.host.specs.Numbers.{verdictNumber, replyNumber, outcomeNumber}
 use Rattle.host.specs.Calls.{startCall, applyCall, runCall}
-use Rattle.host.specs.Values.{calibratedNumber}
+use Rattle.host.specs.Values.{Five, fiveAfter, calibratedNumber}
 use Rattle.host.specs.Returned.{saysNumber, saysLine, HostStartReturns, HostEventReturns, HostRunReturns, HostWriteReturns, HostCalibrateReturns}
-use Rattle.host.proofs.Told.{refusal-low, answer-high, restIn}
+use Rattle.host.proofs.Told.{refusal-low, answer-high, restIn, refusal-back, rest-back}
 use Rattle.host.proofs.Fits.{run-fits, write-fits}
 
 -- ---- the refusal of a number
@@ -176,7 +177,7 @@ done-number (Outcomes.Done size) h d = h
 done-number (Outcomes.Refused why line) h d = absurd d
 
 line-says : (why : Refusal) (line : ℕ) → line < 2 ^ 32 → saysLine why line (numberOf why * 2 ^ 32 + line)
-line-says why line h = (omega (arith, h), omega (arith, h))
+line-says why line h = (refusal-back (Outcomes.Refused why line) h, rest-back (Outcomes.Refused why line) h)
 
 pub host-run-returns : HostRunReturns
 unfolding runCall
@@ -217,3 +218,6 @@ left-run s log b h = left-by (host-run-returns s log b) (λ a. omega (arith, h))
 
 pub left-answers : (s : Lent) (log b : List ℕ) → 2 ^ 32 ≤ runCall s log (length b) .number → bufferOf (deviceOf s) log b ≡ b
 left-answers s log b h = left-by (host-run-returns s log b) (λ a. omega (arith, h)) .1
+
+pub left-calibrate : (held : Five) (l : List ℕ) (raws : Raws) → calibratedNumber (calibratedOf l raws) ≢ 0 → fiveAfter held (calibratedOf l raws) ≡ held
+left-calibrate held l raws h = left-by (host-calibrate-returns held l raws) h

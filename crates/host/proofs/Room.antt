@@ -12,7 +12,7 @@ use Rattle.memory.specs.Bytes.{AllBytes}
 use Rattle.memory.specs.declared.Refusal.the-variants.{NoRoom}
 use Rattle.memory.proofs.AllBytes.{drop-bytes}
 use Rattle.device.specs.declared.Phase.the-variants.{Idle, Listening, Addressed, Writing, Reading, ReadingLow}
-use Rattle.device.proofs.AnswerBytes.{lowIn, Bytes}
+use Rattle.device.proofs.AnswerBytes.{lowIn, HoldsBytes}
 use Rattle.log.proofs.Lengths.{room-enough}
 use Rattle.log.proofs.Refused.{run-returns}
 use Rattle.host.specs.State.{Lent, phaseAt, deviceOf}
@@ -32,7 +32,7 @@ low-byte n held h = go (eqb n 1) (eqb n 2) (eqb n 3) (eqb n 4) (eqb n 5)
     go false false false false true = h
     go false false false false false = omega arith
 
-pub lent-bytes : (l : Lent) → AllBytes (l .bytes) → AllBytes (l .internal) → Bytes (deviceOf l)
+pub lent-bytes : (l : Lent) → AllBytes (l .bytes) → AllBytes (l .internal) → HoldsBytes (deviceOf l)
 unfolding deviceOf
 lent-bytes l h g =
     record { memory = h; page = drop-bytes 6 (l .internal) g; low = low-byte (getD (l .internal) 0 0) (getD (l .internal) 1 0) (g 1) }
