@@ -33,7 +33,7 @@ use Rattle.calibration.specs.declared.Calibrated.the-variants as Calibrations
 use Rattle.calibration.proofs.Checked.{calibrate-returns}
 use Rattle.host.specs.State.{Lent, deviceOf}
 use Rattle.host.specs.Numbers.{verdictNumber, replyNumber, outcomeNumber}
-use Rattle.host.specs.Calls.{startCall, applyCall, runCall}
+use Rattle.host.specs.Calls.{startCall, applyCall, runCall, cyclesCall}
 use Rattle.host.specs.Values.{Five, fiveAfter, calibratedNumber}
 use Rattle.host.specs.Returned.{saysNumber, saysLine, HostStartReturns, HostEventReturns, HostRunReturns, HostWriteReturns, HostCalibrateReturns}
 use Rattle.host.proofs.Told.{refusal-low, answer-high, restIn, refusal-back, rest-back}
@@ -180,14 +180,14 @@ line-says : (why : Refusal) (line : ℕ) → line < 2 ^ 32 → saysLine why line
 line-says why line h = (refusal-back (Outcomes.Refused why line) h, rest-back (Outcomes.Refused why line) h)
 
 pub host-run-returns : HostRunReturns
-unfolding runCall
+unfolding runCall cyclesCall
 host-run-returns l log b =
     let d = deviceOf l in
     let F = run-returns d log b in
     let o = runOf d log (length b) .outcome in
     number-returns F outcomeNumber lineTold (done-number o (run-fits d log (length b))) (line-none (outcomeNumber o))
     (λ why line x. line-says why line (omega (arith, refused-line d log (length b) why line x .1))) (line-tells (outcomeNumber o))
-    (λ r. (rw (F .exactly (r .why) (r .line) .1 (r .circumstance)), F .keeps r .1))
+    (λ r. let e = F .exactly (r .why) (r .line) .1 (r .circumstance) in (rw e, (F .keeps r .1 .1, rw e)))
 
 write-zero : (rs : List Raw) (room : ℕ) (why : Refusal) (line : ℕ) → WriteRefused rs room why line → line < 2 ^ 32
 write-zero rs room why line (event-outside h) = omega arith
@@ -217,7 +217,10 @@ pub left-run : (s : Lent) (log b : List ℕ) → 2 ^ 32 ≤ runCall s log (lengt
 left-run s log b h = left-by (host-run-returns s log b) (λ a. omega (arith, h)) .0
 
 pub left-answers : (s : Lent) (log b : List ℕ) → 2 ^ 32 ≤ runCall s log (length b) .number → bufferOf (deviceOf s) log b ≡ b
-left-answers s log b h = left-by (host-run-returns s log b) (λ a. omega (arith, h)) .1
+left-answers s log b h = left-by (host-run-returns s log b) (λ a. omega (arith, h)) .1 .0
+
+pub left-cycles : (s : Lent) (log b : List ℕ) → 2 ^ 32 ≤ runCall s log (length b) .number → cyclesCall s log (length b) ≡ none
+left-cycles s log b h = left-by (host-run-returns s log b) (λ a. omega (arith, h)) .1 .1
 
 pub left-calibrate : (held : Five) (l : List ℕ) (raws : Raws) → calibratedNumber (calibratedOf l raws) ≢ 0 → fiveAfter held (calibratedOf l raws) ≡ held
 left-calibrate held l raws h = left-by (host-calibrate-returns held l raws) h

@@ -3,6 +3,7 @@
 -- specs/Calibration of crate calibration. A call that a request adds joins here.
 use Prim.Native.Nat.{ℕ, _/_, _%_, _^_, _<_, _≤_}
 use mathlib.Core.Path.{_≡_}
+use mathlib.Core.Option.{none}
 use mathlib.Core.List.{List}
 use lib.ListN.{length}
 use Rattle.memory.specs.Refusals.{numberOf, Returns}
@@ -16,7 +17,7 @@ use Rattle.calibration.specs.Calibration.{calibratedOf, CalibrateRefused}
 use Rattle.calibration.specs.declared.Raws.{Raws}
 use Rattle.host.specs.State.{Lent, deviceOf}
 use Rattle.host.specs.Numbers.{outcomeNumber}
-use Rattle.host.specs.Calls.{startCall, applyCall, runCall}
+use Rattle.host.specs.Calls.{startCall, applyCall, runCall, cyclesCall}
 use Rattle.host.specs.Values.{Five, fiveAfter, calibratedNumber}
 
 -- a refusal with line 0: its number
@@ -39,12 +40,12 @@ HostEventReturns =
     (l : Lent) (r : Raw)
     → Returns (λ (n : ℕ). 256 ≤ n) saysNumber (EventRefused r) (applyCall l r .left ≡ l) (applyCall l r .number)
 
--- a run: less than 2^32, or 11 to 14 with a line, which leave the lent bytes and the answer buffer
+-- a run: less than 2^32, or 11 to 14 with a line, which leave the lent bytes, the answer buffer and the lent number of write cycles
 abbrev pub HostRunReturns : Type 0
 HostRunReturns =
     (l : Lent) (log b : List ℕ)
     → Returns (λ (n : ℕ). n < 2 ^ 32) saysLine (RunRefused (deviceOf l) log (length b))
-    ((runCall l log (length b) .left ≡ l) × (bufferOf (deviceOf l) log b ≡ b)) (runCall l log (length b) .number)
+    ((runCall l log (length b) .left ≡ l) × ((bufferOf (deviceOf l) log b ≡ b) × (cyclesCall l log (length b) ≡ none))) (runCall l log (length b) .number)
 
 -- the writer: less than 2^32, or 13, 11 or 14 with line 0, which leave its buffer
 abbrev pub HostWriteReturns : Type 0
