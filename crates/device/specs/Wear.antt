@@ -33,7 +33,8 @@ writeCycles d (r ∷ rs) =
 
 -- ---- the bound
 
--- how many events a device is at least past its last write cycle: by its phase, and one less while it is busy
+-- how many events a device is at least past its last write cycle, by its phase: 4 while writing without data, 5 with data; and one less while
+-- it is busy
 abbrev pub progressIn : Phase → ℕ
 progressIn Idle = 1
 progressIn Listening = 2
@@ -45,7 +46,7 @@ progressIn (ReadingLow low) = 1
 abbrev pub progressOf : Device → ℕ
 progressOf d = progressIn (d .internal .phase) - oneIf (d .internal .busy)
 
--- the invariant, from any device: no event adds more to the left than one
+-- the invariant, from any device: an event adds at most one to the left, and one to the right
 abbrev pub WearInvariant : Type 0
 WearInvariant = (d : Device) (rs : List Raw) → 6 * writeCycles d rs + progressOf (afterOf d rs) ≤ length rs + progressOf d
 

@@ -14,8 +14,8 @@ use Rattle.host.specs.State.{Lent, deviceOf}
 use Rattle.host.specs.Calls.{applyCall, cyclesCall, busyAt}
 use Rattle.host.specs.Secrecy.{lentBy}
 
--- what the host counts of a call: of a single event one, where `ds1852_lent_busy` is 0 before it and 1 after; of a log what the run wrote to the
--- lent number, which the host set to 0
+-- what the host counts of a call: of a single event one, where `ds1852_lent_busy` is 0 before it and 1 after; of a log the lent number, which
+-- the host set to 0 before the run
 unfoldable pub hostCallCycles : Lent → Call → ℕ
 hostCallCycles l (Single r) = oneIf (eqb (busyAt (l .internal)) 0 && eqb (busyAt (applyCall l r .left .internal)) 1)
 hostCallCycles l (Log log b) = Option·getD (cyclesCall l log (length b)) 0
