@@ -1,7 +1,7 @@
 -- Document 02, 2.8: six times the number of write cycles is at most the events plus one, from a start or a C.
 -- Assumes nothing.
 use Prim.Native.Nat.{ℕ, suc, _+_, _-_, _*_, _/_, _%_, _≤_}
-use mathlib.Core.Path.{_≡_, refl, ap, ap₂, _∙_}
+use mathlib.Core.Path.{_≡_, refl, sym, ap, ap₂, _∙_}
 use mathlib.Core.Logic.{_≢_}
 use mathlib.Core.Bool.{Bool, true, false, cond, not, _&&_, _||_}
 use mathlib.Core.List.{List, [], _∷_, _++_, map}
@@ -10,6 +10,7 @@ use lib.Dec.{eqb}
 use lib.ListN.{length, take}
 use Rattle.memory.specs.Bytes.{oneIf, within, withBit, lowAt}
 use Rattle.memory.specs.Access.{levelIn}
+use Rattle.memory.proofs.Bools.{true-false}
 use Rattle.letters.specs.Letters.{Decoded, Known, OutOfRange, UnknownLetter, decodeOf, rawOf}
 use Rattle.letters.specs.declared.Event.{Event}
 use Rattle.letters.specs.declared.Event.the-variants.{Start, Stop, Byte, Read, WriteDone, PowerCycle, PinsSet, Sample, FastSample}
@@ -19,6 +20,7 @@ use Rattle.device.specs.Step.{stepOf}
 use Rattle.device.specs.Calls.{startOf, appliedTo, applyOf}
 use Rattle.device.specs.Run.{afterOf, ranOf}
 use Rattle.device.specs.Secrecy.{Secure}
+use Rattle.device.specs.Busy.{BusyAfter}
 use Rattle.device.specs.Measured.{Cycled, by-start, by-cycle}
 use Rattle.device.specs.Wear.{cyclesBegun, writeCycles, progressIn, progressOf, WearInvariant, WearBound}
 use Rattle.device.specs.declared.Phase.{Phase}
@@ -26,14 +28,31 @@ use Rattle.device.specs.declared.Phase.the-variants.{Idle, Listening, Ad
 use Rattle.device.specs.declared.Applied.{Applied}
 use Rattle.device.specs.declared.Device.{Device}
 use Rattle.device.proofs.Steps.{byte-kept, clock-kept}
+use Rattle.device.proofs.Busy.{busy-begins}
 use Rattle.device.proofs.Runs.{one-raw, InRange, none, more}
 
 -- ---- one event
 
--- what an event that leaves busy as it was adds, by its progress
-busy-as-was : (was is : Bool) (p q : ℕ) → is ≡ was → q ≤ suc p → 6 * cyclesBegun was is + (q - oneIf is) ≤ suc (p - oneIf was)
-busy-as-was true is p q e h = rw e (omega arith)
-busy-as-was false is p q e h = rw e (omega arith)
+-- an event after which the device is busy only if it was before begins no write cycle
+pub none-begun : (was is : Bool) → (is ≡ true → was ≡ true) → cyclesBegun was is ≡ 0
+none-begun true is h = refl
+none-begun false true h = true-false (sym (h refl))
+none-begun false false h = refl
+
+-- only a stop begins one
+pub only-stop : (d : Device) (e : Event) → e ≢ Stop → cyclesBegun (d .internal .busy) (stepOf d e .device .internal .busy) ≡ 0
+only-stop d e h = none-begun (d .internal .busy) (stepOf d e .device .internal .busy) (λ b. was-busy e h (busy-begins d e .0 b))
+  where
+    was-busy : (e : Event) → e ≢ Stop → BusyAfter d e → d .internal .busy ≡ true
+    was-busy Start h b = b
+    was-busy Stop h b = absurd (h refl)
+    was-busy (Byte v) h b = b
+    was-busy (Read last) h b = b
+    was-busy WriteDone h b = absurd b
+    was-busy PowerCycle h b = absurd b
+    was-busy (PinsSet p) h b = b
+    was-busy (Sample c raw) h b = b
+    was-busy (FastSample c v) h b = b
 
 progress-within : (p : Phase) → (1 ≤ progressIn p) × (progressIn p ≤ 5)
 progress-within Idle = (omega arith, omega arith)
@@ -96,13 +115,16 @@ stop-progress (Writing mask) false a = go (eqb mask 0) (within 0x60 0x7F a)
 stop-progress Reading false a = omega arith
 stop-progress (ReadingLow low) false a = omega arith
 
--- what an event leaves adds at most one to six times the number and the progress
+-- an event adds at most one to six times the number and the progress: the step law
 abbrev Adds : Device → Device → Type 0
 Adds d next = 6 * cyclesBegun (d .internal .busy) (next .internal .busy) + progressOf next ≤ suc (progressOf d)
 
 -- an event that leaves busy as it was
 adds-by : (d next : Device) → next .internal .busy ≡ d .internal .busy → progressIn (next .internal .phase) ≤ suc (progressIn (d .internal .phase)) → Adds d next
-adds-by d next e h = busy-as-was (d .internal .busy) (next .internal .busy) _ _ e h
+adds-by d next e h =
+    let none = none-begun (d .internal .busy) (next .internal .busy) (λ b. sym e ∙ b) in
+    let same = ap oneIf e in
+    omega arith
 
 -- one that ends it
 adds-free : (was : Bool) (p q : ℕ) → q ≤ p → 6 * cyclesBegun was false + (q - oneIf false) ≤ suc (p - oneIf was)
@@ -124,31 +146,11 @@ step-adds d (PinsSet p) = adds-by d (stepOf d (PinsSet p) .device) refl (omega a
 step-adds d (Sample c raw) = adds-by d (stepOf d (Sample c raw) .device) refl (omega arith)
 step-adds d (FastSample c v) = adds-by d (stepOf d (FastSample c v) .device) refl (omega arith)
 
-adds : (d : Device) (x : Decoded) → Adds d (appliedTo d x .device)
-adds d (Known e) = step-adds d e
-adds d OutOfRange = adds-by d d refl (omega arith)
-adds d UnknownLetter = adds-by d d refl (omega arith)
-
--- only a stop begins a write cycle
-pub kept-none : (was is : Bool) → is ≡ was → cyclesBegun was is ≡ 0
-kept-none true is e = refl
-kept-none false is e = rw e
-
-pub freed-none : (was : Bool) → cyclesBegun was false ≡ 0
-freed-none true = refl
-freed-none false = refl
-
-pub only-stop : (d : Device) (e : Event) → e ≢ Stop → cyclesBegun (d .internal .busy) (stepOf d e .device .internal .busy) ≡ 0
-unfolding startedOf
-only-stop d Start h = kept-none (d .internal .busy) (d .internal .busy) refl
-only-stop d Stop h = absurd (h refl)
-only-stop d (Byte v) h = kept-none (d .internal .busy) _ (byte-kept (d .internal .phase) d v .busy)
-only-stop d (Read last) h = kept-none (d .internal .busy) _ (clock-kept (d .internal .phase) (levelIn (d .memory)) d last .busy)
-only-stop d WriteDone h = freed-none (d .internal .busy)
-only-stop d PowerCycle h = freed-none (d .internal .busy)
-only-stop d (PinsSet p) h = kept-none (d .internal .busy) (d .internal .busy) refl
-only-stop d (Sample c raw) h = kept-none (d .internal .busy) (d .internal .busy) refl
-only-stop d (FastSample c v) h = kept-none (d .internal .busy) (d .internal .busy) refl
+-- a refused one leaves the device
+raw-adds : (d : Device) (x : Decoded) → Adds d (appliedTo d x .device)
+raw-adds d (Known e) = step-adds d e
+raw-adds d OutOfRange = adds-by d d refl (omega arith)
+raw-adds d UnknownLetter = adds-by d d refl (omega arith)
 
 -- ---- the list
 
@@ -157,7 +159,7 @@ unfolding writeCycles afterOf applyOf
 along [] d = omega arith
 along (r ∷ rs) d =
     let next = appliedTo d (decodeOf r) .device in
-    let one = adds d (decodeOf r) in
+    let one = raw-adds d (decodeOf r) in
     let rest = along rs next in
     omega arith
 

@@ -12,6 +12,7 @@ use Rattle.memory.specs.Page.{putOf}
 use Rattle.memory.specs.Power.{cycledBytes}
 use Rattle.memory.specs.Image.{imageBytes, imageMemory, verdictOf, loadOf}
 use Rattle.memory.specs.declared.Memory.{Memory}
+use Rattle.memory.proofs.Bools.{true-false}
 use Rattle.memory.proofs.Places.{lower-place}
 use Rattle.memory.proofs.Stored.{page-other}
 use Rattle.letters.specs.Letters.{kindOf, decodeOf, rawOf}
@@ -29,12 +30,11 @@ use Rattle.device.specs.Secrecy.{Reached}
 use Rattle.device.specs.Wear.{writeCycles, shortPages, WearMet}
 use Rattle.device.specs.declared.Phase.the-variants.{Writing}
 use Rattle.device.specs.declared.Device.{Device}
-use Rattle.device.proofs.Steps.{byte-kept}
 use Rattle.device.proofs.Runs.{reached-after, InRange, none, more}
 use Rattle.device.proofs.AnswerBytes.{start-bytes}
-use Rattle.device.proofs.Busy.{free-at-start}
+use Rattle.device.proofs.Busy.{busy-begins, free-at-start}
 use Rattle.device.proofs.Back.{maskAfter, pageAfter, addressed, written, written-memory, written-busy}
-use Rattle.device.proofs.Wear.{kept-none, freed-none, cyclesIn, cycles-in-append, cycles-raw}
+use Rattle.device.proofs.Wear.{none-begun, cyclesIn, cycles-in-append, cycles-raw}
 use Rattle.device.proofs.Traffic.{E, write}
 use Rattle.device.proofs.Witness.{one, reached-one}
 
@@ -46,14 +46,14 @@ unfolding cyclesIn
 bytes-none [] d = refl
 bytes-none (v ∷ vs) d =
     let next = stepOf d (Byte v) .device in
-    let none = kept-none (d .internal .busy) (next .internal .busy) (byte-kept (d .internal .phase) d v .busy) in
+    let none = none-begun (d .internal .busy) (next .internal .busy) (busy-begins d (Byte v) .0) in
     let rest = bytes-none vs next in
     omega arith
 
 data-none : (vs : List ℕ) (d : Device) → cyclesIn d (Start ∷ map Byte vs) ≡ 0
 unfolding cyclesIn startedOf
 data-none vs d =
-    let none = kept-none (d .internal .busy) (d .internal .busy) refl in
+    let none = none-begun (d .internal .busy) (startedOf d .internal .busy) (busy-begins d Start .0) in
     let rest = bytes-none vs (startedOf d) in
     omega arith
 
@@ -103,7 +103,7 @@ pages-cycles (suc n) d b =
     let next = written d 0x00 (0 ∷ []) in
     let stopped = stepOf (held d) Stop .device in
     let first = page-one d (WriteDone ∷ shortPages (addressIn (d .memory)) n) b in
-    let free = freed-none (stopped .internal .busy) in
+    let free = none-begun (stopped .internal .busy) false (λ b. true-false (sym b)) in
     let same : stepOf stopped WriteDone .device ≡ next = page-written d b in
     let rest : cyclesIn next (shortPages (addressIn (d .memory)) n) ≡ n + 1 =
     rw (page-address d b) at (pages-cycles n next (written-busy d 0x00 (0 ∷ []) b)) in
