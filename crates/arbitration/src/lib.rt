@@ -1,3 +1,5 @@
+#![tactic(auto)]
+
 // Two hosts that start together on one line: 2.9 of document 02.
 use device::{Device, Internal};
 use memory::Refusal;
