@@ -5,7 +5,7 @@ use mathlib.Core.Path.{◌≡◌, refl, sym, ap, ap₂, ◌∙◌}
 use mathlib.Core.Logic.{◌⊎◌, inl, inr, ⊎_elim, ◌≢◌}
 use mathlib.Core.Bool.{Bool, true, false, cond, ◌&&◌, and-false, or-true}
 use mathlib.Core.List.{List, [], ◌∷◌, ◌++◌, append-nil}
-use native.Mathlib.Nat.{zero_add, suc-add, add-zero}
+use native.Mathlib.Nat.{zero-add, suc-add, add-zero}
 use native.Mathlib.Omega.{arith}
 use lib.Dec.{eqb, ltb}
 use lib.ListN.{length, get_or, drop, length-append, drop_of_length-le}
@@ -34,7 +34,7 @@ begins_append (x ∷ c) m n = rw (eq-eqb x x refl) (begins_append c m n)
 
 common_append : (c m n : List ℕ) → common_of (c ++ m) (c ++ n) ≡ length c + common_of m n
 unfolding common_of
-common_append [] m n = sym (zero_add (common_of m n))
+common_append [] m n = sym (zero-add (common_of m n))
 common_append (x ∷ c) m n = rw (eq-eqb x x refl, suc-add) (ap suc (common_append c m n))
 
 -- ---- 22: the beginning

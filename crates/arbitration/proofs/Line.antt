@@ -4,7 +4,7 @@ use Prim.Native.Nat.{ℕ, zero, suc, max, ◌+◌, ◌-◌, ◌*◌, ◌≤◌}
 use mathlib.Core.Path.{◌≡◌, refl, ap, ap₂, ◌∙◌}
 use mathlib.Core.Bool.{Bool, true, false, and_comm}
 use mathlib.Core.List.{List, [], ◌∷◌, ◌++◌}
-use native.Mathlib.Nat.{zero_add, suc-add}
+use native.Mathlib.Nat.{zero-add, suc-add}
 use native.Mathlib.Omega.{arith}
 use lib.ListN.{length}
 use Rattle.arbitration.specs.Line.{bits_of, Sending, Out, sent_by, Hosts, hosts, line_bit, sees, bit_time, hosts_after, carried_in, together, survivor_in, winner_of}
@@ -17,7 +17,7 @@ use Rattle.arbitration.proofs.Bits.{bits_length, Parts}
 
 after_add : (n k : ℕ) (h : Hosts) → hosts_after (n + k) h ≡ hosts_after k (hosts_after n h)
 unfolding hosts_after
-after_add zero k h = rw (zero_add k)
+after_add zero k h = rw (zero-add k)
 after_add (suc n) k h = rw (suc-add n k) (after_add n k (bit_time h))
 
 -- hosts that send no more stay as they are

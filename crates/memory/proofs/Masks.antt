@@ -2,7 +2,7 @@
 -- Assumes nothing.
 use mathlib.Core.Path.{◌≡◌, refl, ◌∙◌}
 use mathlib.Core.Logic.{⊎_elim}
-use mathlib.Core.Bool.{Bool, true, false, cond, ◌||◌, or-true, or_false}
+use mathlib.Core.Bool.{Bool, true, false, cond, ◌||◌, or-true, or-false}
 use Prim.Native.Nat.{ℕ, zero, suc, ◌-◌, ◌+◌, ◌*◌, ◌/◌, ◌%◌, ◌^◌, ◌≤◌, ◌<◌, max}
 use native.Mathlib.Nat.{eq-zero-or-pos, mod-lt}
 use native.Mathlib.Omega.{arith}
@@ -74,7 +74,7 @@ module _ (t : ℕ → Bool) where
       own false = above n n (omega arith) (omega arith)
 
       earlier : (c : Bool) → k < n → bit_of k (mask_of t n) ≡ t k → bit_of k (cond c (with_bit n (mask_of t n)) (mask_of t n)) ≡ t k
-      earlier true q e = with_bit_lem n k (mask_of t n) (omega arith) (omega arith) ∙ rw (e, ne_eqb n k (λ z. omega arith)) (or_false (t k))
+      earlier true q e = with_bit_lem n k (mask_of t n) (omega arith) (omega arith) ∙ rw (e, ne_eqb n k (λ z. omega arith)) (or-false (t k))
       earlier false q e = e
 
   -- a mask that is not empty has a number that passes
