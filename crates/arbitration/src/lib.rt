@@ -11,7 +11,7 @@ mod transfer; // the survivor's message to the device
 pub use calls::{arbitrate, arbitrate_in};
 
 // Who survives: both where the messages are equal.
-#[derive(Drop)]
+#[derive(Clone, Copy)]
 pub enum Winner {
     First,
     Second,
@@ -19,21 +19,21 @@ pub enum Winner {
 }
 
 // Who survives, or the refusal and its line.
-#[derive(Drop)]
+#[derive(Clone, Copy)]
 pub enum Arbitration {
     Won(Winner),
     Refused(Refusal, u16),
 }
 
 // A call: its outcome, and the device after it.
-#[derive(Drop)]
+#[derive(Clone, Copy)]
 pub struct ArbitrationResult {
     pub outcome: Arbitration,
     pub device: Device,
 }
 
 // A call over a memory that is lent: its outcome, and the internal state after it.
-#[derive(Drop)]
+#[derive(Clone, Copy)]
 pub struct InPlaceResult {
     pub outcome: Arbitration,
     pub internal: Internal,

@@ -4,8 +4,9 @@ use Prim.Native.Nat.{ℕ, zero, suc, ◌+◌, ◌*◌, ◌/◌, ◌%◌, ◌<◌
 use mathlib.Core.Path.{◌≡◌, refl}
 use mathlib.Core.Bool.{Bool, true, false, cond, not, ◌&&◌}
 use mathlib.Core.Option.{get_or}
-use mathlib.Core.List.{List, map}
+use mathlib.Core.List.{List, ◌∷◌, map}
 use native.Mathlib.Omega.{arith}
+use lib.ListN as ListN
 use lib.Dec.{eqb}
 use Rattle.memory.specs.Bytes.{AllBytes}
 use Rattle.memory.specs.Access.{select_of, control_of, level_in}
@@ -141,4 +142,4 @@ answer_bytes d b R.none = replicate_bytes 0 0 (omega arith)
 answer_bytes d b (R.more e es q h) =
     let l = level_in d.memory in
     let rest = answer_bytes (step_of d e).device (step_bytes l d e (known_fits e q) b) h in
-    λ i. elim i [ zero ↦ step_value l d e b | suc i ↦ rest i ]
+    λ i. elim i as (λ k. ListN.get_or (map value_of (answers_of d (e ∷ es))) k 0 < 256) [ zero ↦ step_value l d e b | suc i ↦ rest i ]

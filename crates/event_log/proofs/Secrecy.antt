@@ -15,7 +15,7 @@ use Rattle.letters.specs.declared.Raw.{Raw}
 use Rattle.device.specs.Calls.{apply_of}
 use Rattle.device.specs.Run.{after_of, replies_of, ran_of, answers_of}
 use Rattle.device.specs.Wear.{write_cycles}
-use Rattle.device.specs.Secrecy.{stored_of, Reached, later}
+use Rattle.device.specs.Secrecy.{Alike, stored_of, Reached, later}
 use Rattle.device.specs.declared.Device.{Device}
 use Rattle.device.specs.declared.Answer.{Answer}
 use Rattle.device.specs.declared.Reply.TheVariants.{Answered}
@@ -139,7 +139,7 @@ calls_secrecy a b (c ∷ cs) ra rb q s =
     let rest = calls_secrecy (called_of a c) (called_of b c) cs (reached_call a c ra) (reached_call b c rb) (rw (call.after_a, call.after_b) (first.alike k)) (λ n m. s (suc n) m) in
     record {
       results = ap₂ {C = List Result} (λ y ys. y ∷ ys) call.result rest.results;
-      alike = λ n m. elim n [ zero ↦ first.alike m | suc n ↦ rest.alike n m ];
-      kept_a = λ n m. elim n [ zero ↦ first.kept_a m | suc n ↦ rest.kept_a n m ∙ ap stored_of call.after_a ∙ first.kept_a k ];
-      kept_b = λ n m. elim n [ zero ↦ first.kept_b m | suc n ↦ rest.kept_b n m ∙ ap stored_of call.after_b ∙ first.kept_b k ];
+      alike = λ n m. elim n as (λ j. Alike (moment_of a (c ∷ cs) j m) (moment_of b (c ∷ cs) j m)) [ zero ↦ first.alike m | suc n ↦ rest.alike n m ];
+      kept_a = λ n m. elim n as (λ j. stored_of (moment_of a (c ∷ cs) j m) ≡ stored_of a) [ zero ↦ first.kept_a m | suc n ↦ rest.kept_a n m ∙ ap stored_of call.after_a ∙ first.kept_a k ];
+      kept_b = λ n m. elim n as (λ j. stored_of (moment_of b (c ∷ cs) j m) ≡ stored_of b) [ zero ↦ first.kept_b m | suc n ↦ rest.kept_b n m ∙ ap stored_of call.after_b ∙ first.kept_b k ];
     }
