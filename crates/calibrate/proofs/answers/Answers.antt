@@ -1,5 +1,5 @@
 -- `answers`: the line that was read lies in the text, and has five bytes at least.
-use Rattle.std.proofs.Common.{◌+◌, ◌-◌, ◌≤◌, length, drop, sym, ap, ◌∙◌, arith, length-drop}
+use Rattle.std.proofs.Common.{drop, sym, ap, ◌∙◌, arith, length-drop}
 use Rattle.lines.proofs.Forms.{part_from}
 use Rattle.calibrate.specs.Lines.{line_of}
 use Rattle.calibrate.proofs.Reading.{line_taken}

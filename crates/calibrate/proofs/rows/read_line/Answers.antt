@@ -1,5 +1,5 @@
 -- `read_line`: each way out and each turn is one of `Reading`.
-use Rattle.std.proofs.Common.{◌≡◌, ◌+◌, ◌-◌, ◌<◌, length, drop, sym, ◌∙◌, arith}
+use Rattle.std.proofs.Common.{◌+◌, ◌-◌, sym, ◌∙◌, arith}
 use Rattle.lines.proofs.Forms.{read_part}
 use Rattle.calibrate.proofs.Reading.{reading_bad, reading_other, reading_step, reading_end, behind_inside}
 use Rattle.calibrate.proofs.rows.read_line.Goals as goal
