@@ -17,7 +17,7 @@ busy_edge l k = one_if (eqb (busy_at l.internal) 0 && eqb (busy_at k.internal) 1
 -- what the host counts of a call: of a single event, and of two hosts on one line, by busy before and after it; of a log the lent number, which
 -- the host set to 0 before the run
 unfoldable pub host_call_cycles : Lent → Call → ℕ
-host_call_cycles l (Single r) = busy_edge l (apply_call l r).left
+host_call_cycles l (Single r) = one_if (eqb (busy_at l.internal) 0 && eqb (busy_at (apply_call l r).left.internal) 1)
 host_call_cycles l (Log log b) = get_or (cycles_call l log (length b)) 0
 host_call_cycles l (Arbitrate m n) = busy_edge l (arbitrate_call l m n).left
 
