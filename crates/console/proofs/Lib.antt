@@ -1,2 +1,3 @@
--- The law of the rooms.
+-- The law of the rooms, and that of the text that is written.
 pub mod Rooms
+pub mod Written
