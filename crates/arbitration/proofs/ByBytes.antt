@@ -1,27 +1,31 @@
 -- Two messages by their bytes: one is the beginning of the other, they are equal, or their first differing byte decides.
 -- Assumes nothing.
-use Prim.Native.Nat.{ℕ, suc, ◌+◌, ◌<◌, ◌≤◌}
+use Rattle.std.proofs.Common.{Ok, Err, nat_eq, Fits, w8}
+use Rattle.std.specs.Ordering.{nat_cmp}
+use Rattle.std.specs.declared.cmp.Ordering.TheVariants.{Less, Equal, Greater}
+use Rattle.std.specs.Cmp.{nat_cmp_is}
+use Rattle.std.specs.Cmp.Lexicographic.{slice_cmp}
+use Rattle.std.specs.List.{starts_with}
+use Prim.Native.Nat.{ℕ, ◌<◌}
 use mathlib.Core.Path.{◌≡◌, refl, sym, ap, ap₂, ◌∙◌}
 use mathlib.Core.Logic.{◌⊎◌, inl, inr, ⊎_elim, ◌≢◌}
-use mathlib.Core.Bool.{Bool, true, false, cond, ◌&&◌, and-false, or-true}
+use mathlib.Core.Bool.{Bool, true, false, or-true}
 use mathlib.Core.List.{List, [], ◌∷◌, ◌++◌, append-nil}
-use native.Mathlib.Nat.{zero-add, suc-add, add-zero}
 use native.Mathlib.Omega.{arith}
 use lib.Dec.{eqb, ltb}
-use lib.ListN.{length, get_or, drop, length-append, drop_of_length-le}
-use lib.Seq.{drop-cons, get_or-append_seam}
-use borrow.Author.Tests.{eq-eqb, ne_eqb, eqb-true, lt-ltb, le-ltb, ltb-true, ltb-false}
+use lib.ListN.{length, get_or, length-append}
+use lib.Seq.{get_or-append_seam}
+use borrow.Author.Tests.{eq-eqb, ne_eqb, eqb-true, ltb-true, ltb-false}
+use Rattle.memory.specs.Refusals.{refused}
 use Rattle.memory.specs.Bytes.{AllBytes}
 use Rattle.memory.specs.declared.Refusal.TheVariants.{MessagePrefix}
 use Rattle.memory.proofs.Bools.{and_true, true_false}
 use Rattle.arbitration.specs.Line.{bits_of, together}
 use Rattle.arbitration.specs.Arbitration.{begins, message_of, Beginning}
-use Rattle.arbitration.specs.Inner.{common_of, contest_of}
+use Rattle.arbitration.specs.Inner.{compared_of, contest_of}
 use Rattle.arbitration.specs.Survivor.{SameUpTo, SmallerFirst, Survives, exchanged}
 use Rattle.arbitration.specs.declared.Winner.{Winner}
 use Rattle.arbitration.specs.declared.Winner.TheVariants.{First, Second, Both}
-use Rattle.arbitration.specs.declared.Arbitration.{Arbitration}
-use Rattle.arbitration.specs.declared.Arbitration.TheVariants.{Won, Refused}
 use Rattle.arbitration.proofs.Bits.{parted_here, before, Parts, messages_part}
 use Rattle.arbitration.proofs.Line.{Sent, swap_sent, alike, parts_sent, last_of, winner_is}
 
@@ -32,10 +36,13 @@ unfolding begins
 begins_append [] m n = refl
 begins_append (x ∷ c) m n = rw (eq-eqb x x refl) (begins_append c m n)
 
-common_append : (c m n : List ℕ) → common_of (c ++ m) (c ++ n) ≡ length c + common_of m n
-unfolding common_of
-common_append [] m n = sym (zero-add (common_of m n))
-common_append (x ∷ c) m n = rw (eq-eqb x x refl, suc-add) (ap suc (common_append c m n))
+cmp_append : (c m n : List ℕ) → slice_cmp nat_cmp (c ++ m) (c ++ n) ≡ slice_cmp nat_cmp m n
+cmp_append [] m n = refl
+cmp_append (x ∷ c) m n = rw (← nat_cmp_is x x Equal refl) (cmp_append c m n)
+
+starts_append : (c m n : List ℕ) → starts_with nat_eq (c ++ m) (c ++ n) ≡ starts_with nat_eq m n
+starts_append [] m n = refl
+starts_append (x ∷ c) m n = rw (eq-eqb x x refl) (starts_append c m n)
 
 -- ---- 22: the beginning
 
@@ -57,7 +64,7 @@ beginning_begins m n b = go b.rest b.some b.text
     go [] h e = absurd (omega arith)
     go (y ∷ r) h e = rw e (ap (λ (l : List ℕ). begins l (m ++ (y ∷ r))) (sym (append-nil m)) ∙ begins_append m [] (y ∷ r))
 
-pub prefix_refused : (m n : List ℕ) → Beginning m n ⊎ Beginning n m → contest_of m n ≡ Refused MessagePrefix 0
+pub prefix_refused : (m n : List ℕ) → Beginning m n ⊎ Beginning n m → contest_of m n ≡ Err (refused MessagePrefix 0)
 prefix_refused m n (inl b) = rw (beginning_begins m n b)
 prefix_refused m n (inr b) = rw (beginning_begins n m b, or-true (begins m n))
 
@@ -81,12 +88,11 @@ module _ {m n : List ℕ} {x y : ℕ} (p : SameUpTo m n x y) where
     unfolding begins
     no_beginning = ap₂ begins p.left p.right ∙ begins_append p.common (x ∷ p.after_x) (y ∷ p.after_y) ∙ rw (ne_eqb x y e)
 
-    -- so many bytes are in common
-    common_bytes : common_of m n ≡ length p.common
-    unfolding common_of
-    common_bytes =
-        ap₂ common_of p.left p.right ∙ common_append p.common (x ∷ p.after_x) (y ∷ p.after_y)
-        ∙ rw (ne_eqb x y e) (add-zero (length p.common))
+    -- as the library tests it too
+    no_start : starts_with nat_eq m n ≡ false
+    no_start =
+        ap₂ (starts_with nat_eq) p.left p.right ∙ starts_append p.common (x ∷ p.after_x) (y ∷ p.after_y)
+        ∙ rw (ne_eqb y x (λ q. e (sym q)))
 
 -- ---- who survives
 
@@ -120,7 +126,7 @@ no_prefix First m n p = neither_begins p
 no_prefix Second m n p = let h = neither_begins p in (h.1, h.0)
 no_prefix Both m n e = rw e (begins_self n, begins_self n)
 
-pub wins : (w : Winner) (m n : List ℕ) → AllBytes m → AllBytes n → Survives w m n → contest_of m n ≡ Won w
+pub wins : (w : Winner) (m n : List ℕ) → AllBytes m → AllBytes n → Survives w m n → contest_of m n ≡ Ok w
 wins w m n hm hn s = let h = no_prefix w m n s in rw (h.0, h.1, winner_is w m n (survivor_sent w m n hm hn s))
 
 -- how two messages stand to each other
@@ -171,46 +177,46 @@ contest_exchanged m n hm hn = go (comparison m n)
 
 -- ---- as the code compares them
 
-abbrev pub compared_of : (m n : List ℕ) → Arbitration
-compared_of m n =
-    let i = common_of m n in
-    cond (ltb i (length m) && ltb i (length n)) (cond (ltb (get_or m i 0) (get_or n i 0)) (Won First) (Won Second))
-    (cond (eqb (length m) (length n)) (Won Both) (Refused MessagePrefix 0))
-
--- all that one has is in common where it is the beginning of the other, shorter or not
-common_front : (m r : List ℕ) → common_of m (m ++ r) ≡ length m
-unfolding common_of
-common_front m r = ap (λ (l : List ℕ). common_of l (m ++ r)) (sym (append-nil m)) ∙ common_append m [] r ∙ add-zero (length m)
-
-common_none : (r : List ℕ) → common_of r [] ≡ 0
-unfolding common_of
-common_none [] = refl
-common_none (x ∷ r) = refl
-
-common_back : (m r : List ℕ) → common_of (m ++ r) m ≡ length m
-common_back m r = ap (common_of (m ++ r)) (sym (append-nil m)) ∙ common_append m r [] ∙ rw (common_none r) (add-zero (length m))
+cmp_self : (m : List ℕ) → slice_cmp nat_cmp m m ≡ Equal
+cmp_self m = ap₂ (slice_cmp nat_cmp) (sym (append-nil m)) (sym (append-nil m)) ∙ cmp_append m [] []
 
 -- where they differ the byte there decides
-compared_bytes : {m n : List ℕ} {x y : ℕ} (p : SameUpTo m n x y) → x ≢ y → compared_of m n ≡ cond (ltb x y) (Won First) (Won Second)
-compared_bytes {m} {n} p e =
-    let k = length p.common in
-    rw (common_bytes p e, lt-ltb k (length m) (inside p), lt-ltb k (length n) (inside (flip p)), byte p, byte (flip p))
+cmp_less : {m n : List ℕ} (p : SmallerFirst m n) → slice_cmp nat_cmp m n ≡ Less
+cmp_less p =
+    ap₂ (slice_cmp nat_cmp) p.place.left p.place.right ∙ cmp_append p.place.common (p.x ∷ p.place.after_x) (p.y ∷ p.place.after_y)
+    ∙ rw (← nat_cmp_is p.x p.y Less p.smaller)
 
-compared_wins : (w : Winner) (m n : List ℕ) → Survives w m n → compared_of m n ≡ Won w
-unfolding common_of
-compared_wins First m n p = compared_bytes p.place (apart p) ∙ rw (lt-ltb p.x p.y p.smaller)
-compared_wins Second m n p = compared_bytes (flip p.place) (λ e. apart p (sym e)) ∙ rw (le-ltb p.y p.x (omega (arith, p.smaller)))
-compared_wins Both m n e = rw (e, rw (append-nil n) at (common_front n []), le-ltb (length n) (length n) (omega arith), eq-eqb (length n) (length n) refl)
+cmp_greater : {m n : List ℕ} (p : SmallerFirst n m) → slice_cmp nat_cmp m n ≡ Greater
+cmp_greater p =
+    ap₂ (slice_cmp nat_cmp) p.place.right p.place.left ∙ cmp_append p.place.common (p.y ∷ p.place.after_y) (p.x ∷ p.place.after_x)
+    ∙ rw (← nat_cmp_is p.y p.x Greater p.smaller)
 
-compared_prefix : (m n : List ℕ) → Beginning m n ⊎ Beginning n m → compared_of m n ≡ Refused MessagePrefix 0
-compared_prefix m n (inl b) =
-    let longer : length n ≡ length m + length b.rest = ap length b.text ∙ length-append m b.rest in
-    let e : common_of m n ≡ length m = rw b.text (common_front m b.rest) in
-    rw (e, le-ltb (length m) (length m) (omega arith), ne_eqb (length m) (length n) (λ q. omega (arith, longer, b.some)))
-compared_prefix m n (inr b) =
-    let longer : length m ≡ length n + length b.rest = ap length b.text ∙ length-append n b.rest in
-    let e : common_of m n ≡ length n = rw b.text (common_back n b.rest) in
-    rw (e, le-ltb (length n) (length n) (omega arith), and-false (ltb (length n) (length m)), ne_eqb (length m) (length n) (λ q. omega (arith, longer, b.some)))
+compared_wins : (w : Winner) (m n : List ℕ) → Survives w m n → compared_of m n ≡ Ok w
+compared_wins First m n p = rw (cmp_less p, no_start p.place (apart p), no_start (flip p.place) (λ e. apart p (sym e)))
+compared_wins Second m n p = rw (cmp_greater p, no_start (flip p.place) (λ e. apart p (sym e)), no_start p.place (apart p))
+compared_wins Both m n e = rw (e, cmp_self n)
+
+-- where one is the beginning of the other, the shorter one comes first
+starts_front : (m r : List ℕ) → starts_with nat_eq (m ++ r) m ≡ true
+starts_front m r = ap (starts_with nat_eq (m ++ r)) (sym (append-nil m)) ∙ starts_append m r []
+
+cmp_front : (m : List ℕ) (y : ℕ) (r : List ℕ) → slice_cmp nat_cmp m (m ++ (y ∷ r)) ≡ Less
+cmp_front m y r = ap (λ (l : List ℕ). slice_cmp nat_cmp l (m ++ (y ∷ r))) (sym (append-nil m)) ∙ cmp_append m [] (y ∷ r)
+
+cmp_back : (m : List ℕ) (y : ℕ) (r : List ℕ) → slice_cmp nat_cmp (m ++ (y ∷ r)) m ≡ Greater
+cmp_back m y r = ap (slice_cmp nat_cmp (m ++ (y ∷ r))) (sym (append-nil m)) ∙ cmp_append m (y ∷ r) []
+
+compared_prefix : (m n : List ℕ) → Beginning m n ⊎ Beginning n m → compared_of m n ≡ Err (refused MessagePrefix 0)
+compared_prefix m n (inl b) = rw b.text (go b.rest b.some)
+  where
+    go : (r : List ℕ) → 0 < length r → compared_of m (m ++ r) ≡ Err (refused MessagePrefix 0)
+    go [] h = absurd (omega arith)
+    go (y ∷ r) h = rw (cmp_front m y r, starts_front m (y ∷ r), or-true (starts_with nat_eq m (m ++ (y ∷ r))))
+compared_prefix m n (inr b) = rw b.text (go b.rest b.some)
+  where
+    go : (r : List ℕ) → 0 < length r → compared_of (n ++ r) n ≡ Err (refused MessagePrefix 0)
+    go [] h = absurd (omega arith)
+    go (y ∷ r) h = rw (cmp_back n y r, starts_front n (y ∷ r))
 
 pub compared : (m n : List ℕ) → AllBytes m → AllBytes n → compared_of m n ≡ contest_of m n
 compared m n hm hn = go (comparison m n)
@@ -219,23 +225,6 @@ compared m n hm hn = go (comparison m n)
     go (decided w s) = compared_wins w m n s ∙ sym (wins w m n hm hn s)
     go (undecided b) = compared_prefix m n b ∙ sym (prefix_refused m n b)
 
--- ---- the loop that counts the common bytes, at place i
-
-module _ (m n : List ℕ) (i : ℕ) where
-  pub first_ended : length m ≤ i → common_of (drop i m) (drop i n) ≡ 0
-  unfolding common_of
-  first_ended h = rw (drop_of_length-le m h)
-
-  pub second_ended : length n ≤ i → common_of (drop i m) (drop i n) ≡ 0
-  second_ended h = rw (drop_of_length-le n h) (common_none (drop i m))
-
-  module _ (h : i < length m) (g : i < length n) where
-    here : common_of (drop i m) (drop i n) ≡ cond (eqb (get_or m i 0) (get_or n i 0)) (suc (common_of (drop (suc i) m) (drop (suc i) n))) 0
-    unfolding common_of
-    here = rw (drop-cons m i 0 h, drop-cons n i 0 g)
-
-    pub bytes_differ : get_or m i 0 ≢ get_or n i 0 → common_of (drop i m) (drop i n) ≡ 0
-    bytes_differ e = here ∙ rw (ne_eqb (get_or m i 0) (get_or n i 0) e)
-
-    pub bytes_same : get_or m i 0 ≡ get_or n i 0 → common_of (drop i m) (drop i n) ≡ suc (common_of (drop (suc i) m) (drop (suc i) n))
-    bytes_same e = here ∙ rw (eq-eqb (get_or m i 0) (get_or n i 0) e)
+-- of a function's two slices
+pub slices_compared : (m n : List ℕ) → ((i : ℕ) → Fits w8 (get_or m i 0)) → ((i : ℕ) → Fits w8 (get_or n i 0)) → compared_of m n ≡ contest_of m n
+slices_compared m n hm hn = compared m n (λ i. omega (arith, hm i)) (λ i. omega (arith, hn i))

@@ -1,13 +1,12 @@
 -- A message as the device receives it: S, its bytes one by one, E; and the same as raw events, each in its range.
 -- Assumes nothing.
-use Prim.Native.Nat.{ℕ, suc, ◌<◌}
+use Rattle.std.proofs.Common.{Result, Ok, Err}
+use Prim.Native.Nat.{ℕ, suc}
 use mathlib.Core.Path.{◌≡◌, sym, ◌∙◌}
-use mathlib.Core.List.{List, [], ◌∷◌, ◌++◌, map, map-append}
+use mathlib.Core.List.{List, [], ◌∷◌, ◌++◌, map}
 use native.Mathlib.Omega.{arith}
-use lib.ListN.{length, get_or, take}
-use lib.Seq.{take-suc}
 use Rattle.memory.specs.Bytes.{AllBytes}
-use Rattle.memory.specs.declared.Refusal.{Refusal}
+use Rattle.memory.specs.declared.Refused.{Refused}
 use Rattle.letters.specs.Letters.{raw_of}
 use Rattle.letters.specs.declared.Event.{Event}
 use Rattle.letters.specs.declared.Event.TheVariants.{Start, Stop, Byte}
@@ -17,17 +16,14 @@ use Rattle.device.specs.Run.{after_of, ran_of}
 use Rattle.device.specs.declared.Device.{Device}
 use Rattle.device.specs.declared.Stepped.{Stepped}
 use Rattle.device.proofs.Runs.{ran_append, InRange, none, more, as_raw}
-use Rattle.arbitration.specs.Arbitration.{outcome_of, message_of, transfer_of, events_of, arbitrate_of}
+use Rattle.arbitration.specs.Arbitration.{outcome_of, message_of, transfer_of, events_of, arbitrate_of, result_with}
 use Rattle.arbitration.specs.declared.Winner.{Winner}
-use Rattle.arbitration.specs.declared.Arbitration.{Arbitration}
-use Rattle.arbitration.specs.declared.Arbitration.TheVariants.{Won, Refused}
 
--- a turn of the loop: one byte more
-pub one_byte : (d before : Device) (after : Stepped) (m : List ℕ) (i : ℕ) → i < length m
-    → before ≡ ran_of d (map Byte (take i m)) → after ≡ step_of before (Byte (get_or m i 0)) → after.device ≡ ran_of d (map Byte (take (suc i) m))
+-- a turn of the loop: one event more
+pub one_event : (d before : Device) (after : Stepped) (es : List Event) (e : Event) → before ≡ ran_of d es → after ≡ step_of before e
+    → after.device ≡ ran_of d (es ++ (e ∷ []))
 unfolding ran_of
-one_byte d before after m i h p q =
-    rw (q, p, take-suc m i 0 h, map-append) (sym (ran_append (map Byte (take i m)) (Byte (get_or m i 0) ∷ []) d))
+one_event d before after es e p q = rw (q, p) (sym (ran_append es (e ∷ []) d))
 
 -- each event is in its range
 bytes_range : (m : List ℕ) (es : List Event) → AllBytes m → InRange es → InRange (map Byte m ++ es)
@@ -39,21 +35,17 @@ transfer_range m h =
     more Start (map Byte m ++ (Stop ∷ [])) (row_known Start tt) (bytes_range m (Stop ∷ []) h (more Stop [] (row_known Stop tt) none))
 
 -- the whole transfer
-pub delivered : (d : Device) (started : Stepped) (sent : Device) (stopped : Stepped) (m : List ℕ) → AllBytes m
-    → started ≡ step_of d Start → sent ≡ ran_of started.device (map Byte m) → stopped ≡ step_of sent Stop
-    → stopped.device ≡ after_of d (map raw_of (transfer_of m))
-unfolding ran_of
-delivered d started sent stopped m h p q r =
-    rw (r, q, p) (sym ((as_raw d (transfer_range m h)).device ∙ ran_append (map Byte m) (Stop ∷ []) (step_of d Start).device))
+pub delivered : (d sent : Device) (m : List ℕ) → AllBytes m → sent ≡ ran_of d (transfer_of m) → sent ≡ after_of d (map raw_of (transfer_of m))
+delivered d sent m h p = p ∙ sym (as_raw d (transfer_range m h)).device
 
--- ---- the whole call
+-- ---- the whole call, by what `outcome` gives
 
-pub won_is : (d next : Device) (m n : List ℕ) (w : Winner) → outcome_of m n ≡ Won w → next ≡ after_of d (map raw_of (transfer_of (message_of w m n)))
-    → record { outcome = Won w; device = next } ≡ arbitrate_of d m n
+pub won_is : (d next : Device) (m n : List ℕ) (x : Result Winner Refused) (w : Winner) → x ≡ outcome_of m n → x ≡ Ok w
+    → next ≡ after_of d (map raw_of (transfer_of (message_of w m n))) → result_with (Ok w) next ≡ arbitrate_of d m n
 unfolding events_of arbitrate_of
-won_is d next m n w e q = rw (e, q)
+won_is d next m n x w p q r = rw (sym p ∙ q, r)
 
-pub refused_is : (d : Device) (m n : List ℕ) (x : Arbitration) (why : Refusal) (line : ℕ) → x ≡ outcome_of m n → x ≡ Refused why line
-    → record { outcome = x; device = d } ≡ arbitrate_of d m n
+pub refused_is : (d : Device) (m n : List ℕ) (x y : Result Winner Refused) (e : Refused) → x ≡ outcome_of m n → x ≡ Err e → y ≡ Err e
+    → result_with y d ≡ arbitrate_of d m n
 unfolding after_of events_of arbitrate_of
-refused_is d m n x why line e q = rw (sym e ∙ q, q)
+refused_is d m n x y e p q r = rw (sym p ∙ q, r)

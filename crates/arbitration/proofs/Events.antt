@@ -1,5 +1,6 @@
 -- The events of a settled transfer: before its E they leave the memory, and none of them ends busy.
 -- Assumes nothing.
+use Rattle.std.proofs.Common.{Result, Ok, Err}
 use Prim.Native.Nat.{ℕ, zero, suc, ◌+◌, ◌%◌, ◌<◌, ◌≤◌}
 use mathlib.Core.Path.{◌≡◌, refl, ◌∙◌}
 use mathlib.Core.Bool.{Bool, true, false, cond, not}
@@ -7,6 +8,7 @@ use mathlib.Core.List.{List, [], ◌∷◌, ◌++◌, map}
 use native.Mathlib.Omega.{arith}
 use lib.Dec.{leb}
 use lib.ListN.{length, take, length-map, length-append}
+use Rattle.memory.specs.declared.Refused.{Refused}
 use Rattle.letters.specs.Letters.{kind_of, Decoded, Known, OutOfRange, decode_of, raw_of}
 use Rattle.letters.specs.declared.Event.TheVariants.{Stop, Byte}
 use Rattle.letters.specs.declared.Raw.{Raw}
@@ -17,8 +19,7 @@ use Rattle.device.specs.Busy.{ends_busy_by, none_ends_busy}
 use Rattle.device.specs.declared.Device.{Device}
 use Rattle.device.proofs.Steps.{byte_kept}
 use Rattle.arbitration.specs.Arbitration.{outcome_of, message_of, transfer_of, events_by, events_of}
-use Rattle.arbitration.specs.declared.Arbitration.{Arbitration}
-use Rattle.arbitration.specs.declared.Arbitration.TheVariants.{Won, Refused}
+use Rattle.arbitration.specs.declared.Winner.{Winner}
 
 -- a byte, in its range or not, leaves the memory and does not end busy
 module _ (v : ℕ) where
@@ -64,9 +65,9 @@ pub events_leave : (m n : List ℕ) (k : ℕ) (d : Device) → k < length (event
 unfolding events_of
 events_leave m n k d = go (outcome_of m n)
   where
-    go : (x : Arbitration) → k < length (events_by x m n) → (after_of d (take k (events_by x m n))).memory ≡ d.memory
-    go (Won w) h = transfer_leaves (message_of w m n) k d h
-    go (Refused why line) h = absurd (omega arith)
+    go : (x : Result Winner Refused) → k < length (events_by x m n) → (after_of d (take k (events_by x m n))).memory ≡ d.memory
+    go (Ok w) h = transfer_leaves (message_of w m n) k d h
+    go (Err e) h = absurd (omega arith)
 
 -- none of them ends busy
 bytes_stay : (m : List ℕ) → none_ends_busy (after_start m) ≡ true
@@ -78,6 +79,6 @@ pub events_stay : (m n : List ℕ) → none_ends_busy (events_of m n) ≡ true
 unfolding events_of none_ends_busy decode_of kind_of raw_of
 events_stay m n = go (outcome_of m n)
   where
-    go : (x : Arbitration) → none_ends_busy (events_by x m n) ≡ true
-    go (Won w) = bytes_stay (message_of w m n)
-    go (Refused why line) = refl
+    go : (x : Result Winner Refused) → none_ends_busy (events_by x m n) ≡ true
+    go (Ok w) = bytes_stay (message_of w m n)
+    go (Err e) = refl

@@ -1,28 +1,26 @@
 -- Demand 1 for the call: each refusal exactly in its circumstance, and what is not refused is the contest of the two messages.
 -- Assumes nothing.
+use Rattle.std.proofs.Common.{Ok, Err, IsOk}
 use Prim.Native.Nat.{ℕ, ◌%◌, ◌≤◌}
-use mathlib.Core.Path.{◌≡◌, refl, ap, subst, ◌∙◌}
+use mathlib.Core.Path.{◌≡◌, refl, sym, ap, subst, ◌∙◌}
 use mathlib.Core.Logic.{◌⊎◌, inl, inr, ⊎_elim, ⊎_map, ◌↔◌}
 use mathlib.Core.Bool.{Bool, true, false, cond, ◌&&◌, ◌||◌, and-false, or-true}
-use mathlib.Core.Option.{Option, none, some}
 use mathlib.Core.List.{List}
 use native.Mathlib.Nat.{mod-lt}
 use native.Mathlib.Omega.{arith}
 use lib.Dec.{leb, lit<}
 use lib.ListN.{length, get_or}
 use borrow.Author.Tests.{eq-eqb, eqb-true, eqb-false, leb-false}
-use Rattle.memory.specs.Refusals.{number_of, Refuses}
+use Rattle.memory.specs.Refusals.{number_of, refused, Refuses}
 use Rattle.memory.specs.declared.Refusal.{Refusal}
 use Rattle.memory.specs.declared.Refusal.TheVariants.{MessageLength, FirstByteOdd, MessagePrefix}
 use Rattle.memory.proofs.Bools.{and_true, or_elim, true_false, in_range_lem, above_range, range_true}
-use Rattle.memory.proofs.Returns.{At, at, returns_by}
+use Rattle.memory.proofs.Returns.{error_of, ok_none, returns_by}
 use Rattle.device.specs.Run.{after_of}
 use Rattle.device.specs.declared.Device.{Device}
 use Rattle.arbitration.specs.Line.{winner_of}
-use Rattle.arbitration.specs.Arbitration.{length_passes, first_passes, begins, outcome_of, events_of, arbitrate_of, SizeRefused, SizeAllowed, FirstOdd, FirstEven, Beginning, ArbitrateRefused, message_length, first_byte_odd, message_prefix, is_won, ArbitrateReturns}
+use Rattle.arbitration.specs.Arbitration.{length_passes, first_passes, begins, outcome_of, events_of, arbitrate_of, SizeRefused, SizeAllowed, FirstOdd, FirstEven, Beginning, ArbitrateRefused, message_length, first_byte_odd, message_prefix, ArbitrateReturns}
 use Rattle.arbitration.specs.Inner.{contest_of}
-use Rattle.arbitration.specs.declared.Arbitration.{Arbitration}
-use Rattle.arbitration.specs.declared.Arbitration.TheVariants.{Won, Refused}
 use Rattle.arbitration.proofs.ByBytes.{begins_beginning, beginning_begins}
 
 -- ---- the three tests, over both messages
@@ -81,22 +79,22 @@ pub both_pass : (m n : List ℕ) → SizeAllowed m × SizeAllowed n → FirstEve
 unfolding outcome_of
 both_pass m n s e = rw ((both_sized m n).1 s, (both_even m n).1 e)
 
-refused_row : (m n : List ℕ) (why : Refusal) (line : ℕ) → ArbitrateRefused m n why line → outcome_of m n ≡ Refused why line
+refused_row : (m n : List ℕ) (why : Refusal) (line : ℕ) → ArbitrateRefused m n why line → outcome_of m n ≡ Err (refused why line)
 unfolding outcome_of
 refused_row m n why line (message_length h) = rw (either_fails (length_passes m) (length_passes n) (⊎_map (size_fails m) (size_fails n) h))
 refused_row m n why line (first_byte_odd s h) =
     rw ((both_sized m n).1 s, either_fails (first_passes m) (first_passes n) (⊎_map (first_fails m) (first_fails n) h))
 refused_row m n why line (message_prefix s e b) = both_pass m n s e ∙ rw ((either_begins m n).1 b)
 
-outcome_either : (m n : List ℕ) → is_won (outcome_of m n) ⊎ Refuses (ArbitrateRefused m n)
+outcome_either : (m n : List ℕ) → IsOk (outcome_of m n) ⊎ Refuses (ArbitrateRefused m n)
 unfolding outcome_of
 outcome_either m n = go (length_passes m && length_passes n) (first_passes m && first_passes n) (begins m n || begins n m) refl refl refl
   where
     go : (sized even prefix : Bool)
         → (length_passes m && length_passes n) ≡ sized → (first_passes m && first_passes n) ≡ even → (begins m n || begins n m) ≡ prefix
-        → is_won (cond sized (cond even (cond prefix (Refused MessagePrefix 0) (Won (winner_of m n))) (Refused FirstByteOdd 0)) (Refused MessageLength 0))
+        → IsOk (cond sized (cond even (cond prefix (Err (refused MessagePrefix 0)) (Ok (winner_of m n))) (Err (refused FirstByteOdd 0))) (Err (refused MessageLength 0)))
         ⊎ Refuses (ArbitrateRefused m n)
-    go true true false e f g = inl tt
+    go true true false e f g = inl refl
     go true true true e f g =
         inr (record { why = MessagePrefix; line = 0; circumstance = message_prefix ((both_sized m n).0 e) ((both_even m n).0 f) ((either_begins m n).0 g) })
     go true false prefix e f g =
@@ -106,14 +104,6 @@ outcome_either m n = go (length_passes m && length_passes n) (first_passes m && 
 
 -- ---- demand 1
 
-abbrev refusal_in : Arbitration → Option At
-refusal_in (Won w) = none
-refusal_in (Refused why line) = some (at why line)
-
-won_none : (x : Arbitration) → is_won x → refusal_in x ≡ none
-won_none (Won w) h = refl
-won_none (Refused why line) h = absurd h
-
 refused_left : (d : Device) (m n : List ℕ) (why : Refusal) (line : ℕ) → ArbitrateRefused m n why line → (arbitrate_of d m n).device ≡ d
 unfolding arbitrate_of events_of after_of
 refused_left d m n why line h = rw (refused_row m n why line h)
@@ -121,7 +111,7 @@ refused_left d m n why line h = rw (refused_row m n why line h)
 pub arbitrate_returns : ArbitrateReturns
 unfolding arbitrate_of
 arbitrate_returns d m n =
-    returns_by refusal_in (won_none (outcome_of m n)) (λ why line s. ap refusal_in s) (outcome_either m n) (refused_row m n)
+    returns_by error_of (ok_none (outcome_of m n)) (λ why line s. ap error_of s) (outcome_either m n) (refused_row m n)
     (λ r. refused_left d m n r.why r.line r.circumstance)
 
 -- the numbers 20 to 22
@@ -133,19 +123,19 @@ refused_number m n why line (message_prefix s e b) = (omega arith, omega arith)
 -- ---- what is not refused
 
 -- one that is won is the contest of the two
-pub won_contest : (m n : List ℕ) → is_won (outcome_of m n) → outcome_of m n ≡ contest_of m n
+pub won_contest : (m n : List ℕ) → IsOk (outcome_of m n) → outcome_of m n ≡ contest_of m n
 unfolding outcome_of
 won_contest m n h = go (length_passes m && length_passes n) (first_passes m && first_passes n) h
   where
-    go : (sized even : Bool) → is_won (cond sized (cond even (contest_of m n) (Refused FirstByteOdd 0)) (Refused MessageLength 0))
-        → cond sized (cond even (contest_of m n) (Refused FirstByteOdd 0)) (Refused MessageLength 0) ≡ contest_of m n
+    go : (sized even : Bool) → IsOk (cond sized (cond even (contest_of m n) (Err (refused FirstByteOdd 0))) (Err (refused MessageLength 0)))
+        → cond sized (cond even (contest_of m n) (Err (refused FirstByteOdd 0))) (Err (refused MessageLength 0)) ≡ contest_of m n
     go true true h = refl
-    go true false h = absurd h
-    go false even h = absurd h
+    go true false h = true_false (sym h)
+    go false even h = true_false (sym h)
 
 -- and is exactly what no row refuses
-pub won_allowed : (m n : List ℕ) → is_won (outcome_of m n) ↔ (Refuses (ArbitrateRefused m n) → ⊥)
+pub won_allowed : (m n : List ℕ) → IsOk (outcome_of m n) ↔ (Refuses (ArbitrateRefused m n) → ⊥)
 won_allowed m n = (
-  λ h r. subst is_won (refused_row m n r.why r.line r.circumstance) h,
+  λ h r. true_false (sym (subst IsOk (refused_row m n r.why r.line r.circumstance) h)),
   λ h. ⊎_elim (λ w. w) (λ r. absurd (h r)) (outcome_either m n),
 )

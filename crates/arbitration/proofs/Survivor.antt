@@ -1,5 +1,8 @@
 -- Document 02, 2.9: who survives, what the line carries, the order of the hosts, and who can be forced off.
 -- Assumes nothing.
+use Rattle.memory.specs.Refusals.{refused}
+use Rattle.memory.specs.declared.Refused.{Refused}
+use Rattle.std.proofs.Common.{Result, Ok, Err, IsOk}
 use Prim.Native.Nat.{ℕ, zero, suc, ◌<◌}
 use mathlib.Core.Path.{◌≡◌, refl, sym, ap, subst, ◌∙◌}
 use mathlib.Core.Logic.Iff
@@ -13,15 +16,14 @@ use borrow.Author.Tests.{eqb-true, eqb-false}
 use Rattle.memory.specs.Bytes.{AllBytes}
 use Rattle.memory.specs.declared.Refusal.TheVariants.{MessageLength, FirstByteOdd}
 use Rattle.memory.proofs.AllBytes.{replicate_bytes}
+use Rattle.memory.proofs.Bools.{true_false}
 use Rattle.device.specs.Run.{after_of}
 use Rattle.arbitration.specs.Line.{bits_of}
-use Rattle.arbitration.specs.Arbitration.{length_passes, first_passes, outcome_of, message_of, events_by, events_of, arbitrate_of, SizeAllowed, FirstEven, is_won}
+use Rattle.arbitration.specs.Arbitration.{length_passes, first_passes, outcome_of, message_of, events_by, events_of, arbitrate_of, SizeAllowed, FirstEven}
 use Rattle.arbitration.specs.Inner.{contest_of}
 use Rattle.arbitration.specs.Survivor.{SmallerFirst, Survives, SmallerSurvives, EqualCountAsOne, bytes_in, bytes_on_line, sends_no_more, SurvivorCarried, exchanged, OrderFree, SomeMessage, HasNonzero, ForcedOff}
 use Rattle.arbitration.specs.declared.Winner.{Winner}
 use Rattle.arbitration.specs.declared.Winner.TheVariants.{First, Second, Both}
-use Rattle.arbitration.specs.declared.Arbitration.{Arbitration}
-use Rattle.arbitration.specs.declared.Arbitration.TheVariants.{Won, Refused}
 use Rattle.arbitration.proofs.Bits.{bits_length, bytes_back}
 use Rattle.arbitration.proofs.Line.{alike, last_of, winner_is}
 use Rattle.arbitration.proofs.ByBytes.{flip, byte, inside, begins_self, prefix_refused, survivor_sent, wins, Comparison, decided, undecided, before_smaller, at_once, comparison, contest_exchanged}
@@ -30,26 +32,26 @@ use Rattle.arbitration.proofs.Returned.{both_pass, won_contest, won_allowed}
 -- ---- who survives
 
 -- the contest is won by one of the three, as the bytes have it
-won_by : (m n : List ℕ) (w : Winner) → AllBytes m → AllBytes n → contest_of m n ≡ Won w → Survives w m n
+won_by : (m n : List ℕ) (w : Winner) → AllBytes m → AllBytes n → contest_of m n ≡ Ok w → Survives w m n
 won_by m n w hm hn q = go (comparison m n)
   where
     go : Comparison m n → Survives w m n
-    go (decided v s) = let e : Won v ≡ Won w = sym (wins v m n hm hn s) ∙ q in let same : v ≡ w = cc in subst (λ (x : Winner). Survives x m n) same s
-    go (undecided b) = absurd (subst is_won (sym q ∙ prefix_refused m n b) tt)
+    go (decided v s) = let e : Ok v ≡ Ok w = sym (wins v m n hm hn s) ∙ q in let same : v ≡ w = cc in subst (λ (x : Winner). Survives x m n) same s
+    go (undecided b) = true_false (sym (subst IsOk (sym q ∙ prefix_refused m n b) refl))
 
-won_outcome : (m n : List ℕ) (w : Winner) → outcome_of m n ≡ Won w → contest_of m n ≡ Won w
-won_outcome m n w q = sym (won_contest m n (subst is_won (sym q) tt)) ∙ q
+won_outcome : (m n : List ℕ) (w : Winner) → outcome_of m n ≡ Ok w → contest_of m n ≡ Ok w
+won_outcome m n w q = sym (won_contest m n (subst IsOk (sym q) refl)) ∙ q
 
 pub smaller_survives : SmallerSurvives
 smaller_survives m n w hm hn = (
-  λ q. ((won_allowed m n).0 (subst is_won (sym q) tt), won_by m n w hm hn (won_outcome m n w q)),
+  λ q. ((won_allowed m n).0 (subst IsOk (sym q) refl), won_by m n w hm hn (won_outcome m n w q)),
   λ h. won_contest m n ((won_allowed m n).1 h.0) ∙ wins w m n hm hn h.1,
 )
 
 pub equal_count_as_one : EqualCountAsOne
 unfolding arbitrate_of events_of
 equal_count_as_one d m s e =
-    let q : outcome_of m m ≡ Won Both = both_pass m m (s, s) (e, e) ∙ rw (begins_self m, winner_is Both m m (alike (bits_of m))) in
+    let q : outcome_of m m ≡ Ok Both = both_pass m m (s, s) (e, e) ∙ rw (begins_self m, winner_is Both m m (alike (bits_of m))) in
     (q, rw q)
 
 -- ---- what the line carries
@@ -87,18 +89,18 @@ outcome_exchanged m n hm hn =
     (go (length_passes m && length_passes n) (first_passes m && first_passes n) (contest_exchanged m n hm hn))
   where
     go : (sized even : Bool) → contest_of n m ≡ exchanged (contest_of m n)
-        → cond sized (cond even (contest_of n m) (Refused FirstByteOdd 0)) (Refused MessageLength 0)
-        ≡ exchanged (cond sized (cond even (contest_of m n) (Refused FirstByteOdd 0)) (Refused MessageLength 0))
+        → cond sized (cond even (contest_of n m) (Err (refused FirstByteOdd 0))) (Err (refused MessageLength 0))
+        ≡ exchanged (cond sized (cond even (contest_of m n) (Err (refused FirstByteOdd 0))) (Err (refused MessageLength 0)))
     go true true e = e
     go true false e = refl
     go false even e = refl
 
 -- the events are the same
-events_exchanged : (m n : List ℕ) (x : Arbitration) → (x ≡ Won Both → m ≡ n) → events_by (exchanged x) n m ≡ events_by x m n
-events_exchanged m n (Won First) h = refl
-events_exchanged m n (Won Second) h = refl
-events_exchanged m n (Won Both) h = rw (h refl)
-events_exchanged m n (Refused why line) h = refl
+events_exchanged : (m n : List ℕ) (x : Result Winner Refused) → (x ≡ Ok Both → m ≡ n) → events_by (exchanged x) n m ≡ events_by x m n
+events_exchanged m n (Ok First) h = refl
+events_exchanged m n (Ok Second) h = refl
+events_exchanged m n (Ok Both) h = rw (h refl)
+events_exchanged m n (Err e) h = refl
 
 pub order_free : OrderFree
 unfolding arbitrate_of events_of
@@ -131,7 +133,7 @@ forcing (x ∷ m) (suc i) h g = go (eqb x 0) refl (forcing m i (omega arith) g)
     go false e f = record { zeros = 0; shorter = omega arith; smaller = at_once 0 x [] m (omega (arith, eqb-false x 0 e)) }
 
 -- where it is the first host, and where it is the second
-forced_first : (m : List ℕ) → AllBytes m → SizeAllowed m → FirstEven m → SomeMessage (λ n. outcome_of m n ≡ Won Second) ↔ HasNonzero m
+forced_first : (m : List ℕ) → AllBytes m → SizeAllowed m → FirstEven m → SomeMessage (λ n. outcome_of m n ≡ Ok Second) ↔ HasNonzero m
 forced_first m hm s e = (
   λ x. larger_other m x.message ((smaller_survives m x.message Second hm x.bytes).0 x.holds).1,
   λ b.
@@ -146,7 +148,7 @@ forced_first m hm s e = (
       },
 )
 
-either_side : (m : List ℕ) → AllBytes m → SomeMessage (λ n. outcome_of n m ≡ Won First) ↔ SomeMessage (λ n. outcome_of m n ≡ Won Second)
+either_side : (m : List ℕ) → AllBytes m → SomeMessage (λ n. outcome_of n m ≡ Ok First) ↔ SomeMessage (λ n. outcome_of m n ≡ Ok Second)
 either_side m hm = (
   λ x. record { message = x.message; bytes = x.bytes; holds = outcome_exchanged x.message m x.bytes hm ∙ ap exchanged x.holds },
   λ x. record { message = x.message; bytes = x.bytes; holds = outcome_exchanged m x.message hm x.bytes ∙ ap exchanged x.holds },

@@ -1,23 +1,24 @@
 -- Worked cases by hand.
 -- Assumes nothing.
+use Rattle.std.proofs.Common.{Result, Ok, Err}
 use mathlib.Core.Path.{◌≡◌, refl}
 use mathlib.Core.Bool.{true, false}
 use mathlib.Core.List.{List, [], ◌∷◌, ◌++◌}
 use Prim.Native.Nat.{ℕ}
 use lib.ListN.{replicate}
 use Rattle.memory.specs.Refusals.{number_of}
+use Rattle.memory.specs.declared.Refused.{Refused}
 use Rattle.arbitration.specs.Line.{bits_from, bits_of, Sending, Out, hosts, hosts_after, carried_in, together, winner_of}
 use Rattle.arbitration.specs.Arbitration.{begins, outcome_of}
+use Rattle.arbitration.specs.declared.Winner.{Winner}
 use Rattle.arbitration.specs.declared.Winner.TheVariants.{First, Second, Both}
-use Rattle.arbitration.specs.declared.Arbitration.{Arbitration}
-use Rattle.arbitration.specs.declared.Arbitration.TheVariants.{Won, Refused}
 
 -- what comes back, as a number: the refusal's, or 1, 2, 3 for the first, the second and both
-abbrev code_of : Arbitration → ℕ
-code_of (Won First) = 1
-code_of (Won Second) = 2
-code_of (Won Both) = 3
-code_of (Refused why line) = number_of why
+abbrev code_of : Result Winner Refused → ℕ
+code_of (Ok First) = 1
+code_of (Ok Second) = 2
+code_of (Ok Both) = 3
+code_of (Err e) = number_of e.why
 
 abbrev case : List ℕ → List ℕ → ℕ
 case m n = code_of (outcome_of m n)

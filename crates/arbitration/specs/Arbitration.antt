@@ -1,25 +1,20 @@
 -- Document 02, 2.9: what two messages come to, with the refusals, and the device after it; then demand 1 for the call.
-use Rattle.std.specs.Prelude.{ℕ, ◌%◌, ◌<◌, ◌≤◌, ◌≡◌, ◌⊎◌, Bool, true, false, cond, ◌&&◌, ◌||◌, List, [], ◌∷◌, ◌++◌, map, eqb, length, get_or}
-use Prim.{Unit}
+use Rattle.memory.specs.declared.Refused.{Refused}
+use Rattle.std.specs.Prelude.{IsOk, ℕ, ◌%◌, ◌<◌, ◌≤◌, ◌≡◌, ◌⊎◌, Bool, true, false, cond, ◌&&◌, ◌||◌, List, [], ◌∷◌, ◌++◌, map, eqb, length, get_or, Result, Ok, Err}
 use Rattle.memory.specs.Bytes.{within}
-use Rattle.memory.specs.Refusals.{Returns}
-use Rattle.memory.specs.declared.Memory.{Memory}
+use Rattle.memory.specs.Refusals.{refused, Returns}
 use Rattle.memory.specs.declared.Refusal.{Refusal}
 use Rattle.memory.specs.declared.Refusal.TheVariants.{MessageLength, FirstByteOdd, MessagePrefix}
 use Rattle.letters.specs.Letters.{raw_of}
 use Rattle.letters.specs.declared.Event.{Event}
 use Rattle.letters.specs.declared.Event.TheVariants.{Start, Stop, Byte}
 use Rattle.letters.specs.declared.Raw.{Raw}
-use Rattle.device.specs.State.{device_in}
 use Rattle.device.specs.Run.{after_of}
 use Rattle.device.specs.declared.Device.{Device}
 use Rattle.arbitration.specs.Line.{winner_of}
 use Rattle.arbitration.specs.declared.Winner.{Winner}
 use Rattle.arbitration.specs.declared.Winner.TheVariants.{First, Second, Both}
-use Rattle.arbitration.specs.declared.Arbitration.{Arbitration}
-use Rattle.arbitration.specs.declared.Arbitration.TheVariants.{Won, Refused}
 use Rattle.arbitration.specs.declared.ArbitrationResult.{ArbitrationResult}
-use Rattle.arbitration.specs.declared.InPlaceResult.{InPlaceResult}
 
 -- ---- the refusals, each tested over both messages before the next
 
@@ -38,14 +33,18 @@ begins [] (y ∷ n) = true
 begins (x ∷ m) [] = false
 begins (x ∷ m) (y ∷ n) = eqb x y && begins m n
 
--- who survives, or the refusal, with line 0. The device has no part in it
+-- who survives, or the refusal
+abbrev pub Arbitration : Type 0
+Arbitration = Result Winner Refused
+
+-- of two messages, with line 0. The device has no part in it
 unfoldable pub outcome_of : (m n : List ℕ) → Arbitration
 outcome_of m n =
     cond (length_passes m && length_passes n)
     (cond (first_passes m && first_passes n)
-    (cond (begins m n || begins n m) (Refused MessagePrefix 0) (Won (winner_of m n)))
-    (Refused FirstByteOdd 0))
-    (Refused MessageLength 0)
+    (cond (begins m n || begins n m) (Err (refused MessagePrefix 0)) (Ok (winner_of m n)))
+    (Err (refused FirstByteOdd 0)))
+    (Err (refused MessageLength 0))
 
 -- ---- the device
 
@@ -61,8 +60,8 @@ transfer_of m = Start ∷ (map Byte m ++ (Stop ∷ []))
 
 -- the events of a call: none where it is refused
 abbrev pub events_by : Arbitration → (m n : List ℕ) → List Raw
-events_by (Won w) m n = map raw_of (transfer_of (message_of w m n))
-events_by (Refused why line) m n = []
+events_by (Ok w) m n = map raw_of (transfer_of (message_of w m n))
+events_by (Err e) m n = []
 
 unfoldable pub events_of : (m n : List ℕ) → List Raw
 events_of m n = events_by (outcome_of m n) m n
@@ -71,9 +70,9 @@ events_of m n = events_by (outcome_of m n) m n
 unfoldable pub arbitrate_of : Device → (m n : List ℕ) → ArbitrationResult
 arbitrate_of d m n = record { outcome = outcome_of m n; device = after_of d (events_of m n) }
 
--- over a memory that is lent: the memory and the internal state that the call leaves make the device
-abbrev pub result_in : Memory → InPlaceResult → ArbitrationResult
-result_in memory r = record { outcome = r.outcome; device = device_in memory r.internal }
+-- over a device whose line is lent: the outcome, with the device that the call leaves
+abbrev pub result_with : Arbitration → Device → ArbitrationResult
+result_with x d = record { outcome = x; device = d }
 
 -- ---- demand 1
 
@@ -104,12 +103,8 @@ pub data ArbitrateRefused (m n : List ℕ) : Refusal → ℕ → Type 0 where
   first_byte_odd : SizeAllowed m × SizeAllowed n → FirstOdd m ⊎ FirstOdd n → ArbitrateRefused m n FirstByteOdd 0
   message_prefix : SizeAllowed m × SizeAllowed n → FirstEven m × FirstEven n → Beginning m n ⊎ Beginning n m → ArbitrateRefused m n MessagePrefix 0
 
-abbrev pub is_won : Arbitration → Type 0
-is_won (Won w) = Unit
-is_won (Refused why line) = ⊥
-
 -- a refused call leaves the device; the messages are lent to be read
 abbrev pub ArbitrateReturns : Type 0
 ArbitrateReturns =
     (d : Device) (m n : List ℕ)
-    → Returns is_won (λ why line x. x ≡ Refused why line) (ArbitrateRefused m n) ((arbitrate_of d m n).device ≡ d) (arbitrate_of d m n).outcome
+    → Returns IsOk (λ why line x. x ≡ Err (refused why line)) (ArbitrateRefused m n) ((arbitrate_of d m n).device ≡ d) (arbitrate_of d m n).outcome

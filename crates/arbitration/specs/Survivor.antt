@@ -1,8 +1,9 @@
 -- Document 02, 2.9: what holds of two hosts on one line. The statements.
-use Rattle.std.specs.Prelude.{ℕ, zero, suc, ◌+◌, ◌*◌, ◌^◌, ◌<◌, ◌≡◌, ◌≢◌, ◌↔◌, Bool, List, [], ◌∷◌, ◌++◌, map, length, get_or, take, drop}
+use Rattle.std.specs.Prelude.{ℕ, zero, suc, ◌+◌, ◌*◌, ◌^◌, ◌<◌, ◌≡◌, ◌≢◌, ◌↔◌, Bool, List, [], ◌∷◌, ◌++◌, map, length, get_or, take, drop, Result, Ok, Err}
 use Prim.{Unit}
 use Rattle.memory.specs.Bytes.{one_if, AllBytes}
 use Rattle.memory.specs.Refusals.{Refuses}
+use Rattle.memory.specs.declared.Refused.{Refused}
 use Rattle.letters.specs.Letters.{raw_of}
 use Rattle.letters.specs.declared.Event.TheVariants.{Start, Stop, Byte}
 use Rattle.device.specs.Run.{after_of}
@@ -11,8 +12,6 @@ use Rattle.arbitration.specs.Line.{Host, Sending, Out, hosts_after, carried_in, 
 use Rattle.arbitration.specs.Arbitration.{outcome_of, message_of, transfer_of, arbitrate_of, SizeAllowed, FirstEven, ArbitrateRefused}
 use Rattle.arbitration.specs.declared.Winner.{Winner}
 use Rattle.arbitration.specs.declared.Winner.TheVariants.{First, Second, Both}
-use Rattle.arbitration.specs.declared.Arbitration.{Arbitration}
-use Rattle.arbitration.specs.declared.Arbitration.TheVariants.{Won, Refused}
 
 -- ---- who survives
 
@@ -42,14 +41,14 @@ abbrev pub SmallerSurvives : Type 0
 SmallerSurvives =
     (m n : List ℕ) (w : Winner)
     → AllBytes m → AllBytes n
-    → (outcome_of m n ≡ Won w) ↔ ((Refuses (ArbitrateRefused m n) → ⊥) × Survives w m n)
+    → (outcome_of m n ≡ Ok w) ↔ ((Refuses (ArbitrateRefused m n) → ⊥) × Survives w m n)
 
 -- "equal messages count as one": the device receives the message once
 abbrev pub EqualCountAsOne : Type 0
 EqualCountAsOne =
     (d : Device) (m : List ℕ)
     → SizeAllowed m → FirstEven m
-    → (outcome_of m m ≡ Won Both) × ((arbitrate_of d m m).device ≡ after_of d (map raw_of (transfer_of m)))
+    → (outcome_of m m ≡ Ok Both) × ((arbitrate_of d m m).device ≡ after_of d (map raw_of (transfer_of m)))
 
 -- ---- what the line carries
 
@@ -82,15 +81,15 @@ pub record LineCarries (d : Device) (m n : List ℕ) (w : Winner) : Type 0 where
   pub received : (arbitrate_of d m n).device ≡ after_of d (map raw_of (Start ∷ (map Byte (bytes_on_line m n (length (message_of w m n))) ++ (Stop ∷ []))))
 
 abbrev pub SurvivorCarried : Type 0
-SurvivorCarried = (d : Device) (m n : List ℕ) (w : Winner) → AllBytes m → AllBytes n → outcome_of m n ≡ Won w → LineCarries d m n w
+SurvivorCarried = (d : Device) (m n : List ℕ) (w : Winner) → AllBytes m → AllBytes n → outcome_of m n ≡ Ok w → LineCarries d m n w
 
 -- ---- the order of the two hosts
 
-abbrev pub exchanged : Arbitration → Arbitration
-exchanged (Won First) = Won Second
-exchanged (Won Second) = Won First
-exchanged (Won Both) = Won Both
-exchanged (Refused why line) = Refused why line
+abbrev pub exchanged : Result Winner Refused → Result Winner Refused
+exchanged (Ok First) = Ok Second
+exchanged (Ok Second) = Ok First
+exchanged (Ok Both) = Ok Both
+exchanged (Err e) = Err e
 
 -- exchanged messages give the exchanged answer and the same device
 abbrev pub OrderFree : Type 0
@@ -119,4 +118,4 @@ abbrev pub ForcedOff : Type 0
 ForcedOff =
     (m : List ℕ)
     → AllBytes m → SizeAllowed m → FirstEven m
-    → (SomeMessage (λ n. outcome_of m n ≡ Won Second) ↔ HasNonzero m) × (SomeMessage (λ n. outcome_of n m ≡ Won First) ↔ HasNonzero m)
+    → (SomeMessage (λ n. outcome_of m n ≡ Ok Second) ↔ HasNonzero m) × (SomeMessage (λ n. outcome_of n m ≡ Ok First) ↔ HasNonzero m)

@@ -1,8 +1,8 @@
 #![tactic(auto)]
 
 // Two hosts that start together on one line: 2.9 of document 02.
-use device::{Device, Internal};
-use memory::Refusal;
+use device::Device;
+use memory::Refused;
 
 mod calls; // the whole call
 mod messages; // two messages: who survives, or why they are refused
@@ -11,30 +11,16 @@ mod transfer; // the survivor's message to the device
 pub use calls::{arbitrate, arbitrate_in};
 
 // Who survives: both where the messages are equal.
-#[derive(Clone, Copy)]
+#[derive(Clone, Copy, Debug, PartialEq, Eq)]
 pub enum Winner {
     First,
     Second,
     Both,
 }
 
-// Who survives, or the refusal and its line.
-#[derive(Clone, Copy)]
-pub enum Arbitration {
-    Won(Winner),
-    Refused(Refusal, u16),
-}
-
-// A call: its outcome, and the device after it.
+// A call: who survives, or why it is refused; and the device after it.
 #[derive(Clone, Copy)]
 pub struct ArbitrationResult {
-    pub outcome: Arbitration,
+    pub outcome: Result<Winner, Refused>,
     pub device: Device,
-}
-
-// A call over a memory that is lent: its outcome, and the internal state after it.
-#[derive(Clone, Copy)]
-pub struct InPlaceResult {
-    pub outcome: Arbitration,
-    pub internal: Internal,
 }

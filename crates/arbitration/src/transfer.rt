@@ -1,55 +1,34 @@
 // The survivor's message, as the device receives it.
 ghost use Rattle.std.specs.Prelude.{◌≡◌, map};
-ghost use Rattle.memory.specs.Access.{memory_in};
 ghost use Rattle.letters.specs.Letters.{raw_of};
-ghost use Rattle.device.specs.State.{device_in};
+ghost use Rattle.device.specs.State.{device_at, SameLine};
 ghost use Rattle.device.specs.Run.{after_of};
 ghost use Rattle.arbitration.specs.Arbitration.{message_of, transfer_of};
 
 use super::Winner;
-use device::Internal;
+use device::DeviceMut;
 use letters::Event;
-use memory::Bytes;
+use std::iter::once;
 
 // S, the bytes of a message and E. The answers are told to nobody: a host that is not acknowledged goes on.
-fn transfer(
-    bytes: &mut Bytes,
-    password2: [u8; 4],
-    asel: bool,
-    internal: Internal,
-    message: &[u8],
-) -> Internal
-    ensures { device_in (memory_in bytes.new password2 asel) result
-        ≡ after_of (device_in (memory_in bytes.old password2 asel) internal) (map raw_of (transfer_of message.now)) }
+fn transfer(device: &mut DeviceMut<'_>, message: &[u8])
+    ensures line { SameLine device.old device.new }
+    ensures device { device_at device.new ≡ after_of (device_at device.old) (map raw_of (transfer_of message.now)) }
 {
-    let started = device::step_in(bytes, password2, asel, internal, Event::Start);
-    let mut next = started.internal;
-    let mut i = 0;
-    while i < message.len() {
-        let moved = device::step_in(bytes, password2, asel, next, Event::Byte(message[i]));
-        next = moved.internal;
-        i += 1;
+    let sent = message.iter().map(|byte| Event::Byte(*byte));
+    for event in once(Event::Start).chain(sent).chain(once(Event::Stop)) {
+        device.step(event);
     }
-    let stopped = device::step_in(bytes, password2, asel, next, Event::Stop);
-    stopped.internal
 }
 
 // The message of the host that survives; of two equal ones the first.
-pub fn deliver(
-    bytes: &mut Bytes,
-    password2: [u8; 4],
-    asel: bool,
-    internal: Internal,
-    winner: Winner,
-    first: &[u8],
-    second: &[u8],
-) -> Internal
-    ensures { device_in (memory_in bytes.new password2 asel) result
-        ≡ after_of (device_in (memory_in bytes.old password2 asel) internal) (map raw_of (transfer_of (message_of winner first.now second.now))) }
+pub fn deliver(device: &mut DeviceMut<'_>, winner: Winner, first: &[u8], second: &[u8])
+    ensures line { SameLine device.old device.new }
+    ensures device { device_at device.new ≡ after_of (device_at device.old) (map raw_of (transfer_of (message_of winner first.now second.now))) }
 {
-    match winner {
-        Winner::First => transfer(bytes, password2, asel, internal, first),
-        Winner::Second => transfer(bytes, password2, asel, internal, second),
-        Winner::Both => transfer(bytes, password2, asel, internal, first),
-    }
+    let message = match winner {
+        Winner::First | Winner::Both => first,
+        Winner::Second => second,
+    };
+    transfer(device, message)
 }

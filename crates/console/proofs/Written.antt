@@ -1,11 +1,10 @@
 -- What `monitor_text` leaves at the front of its buffer is the whole text: it has room for any.
-use Rattle.std.proofs.Common.{◌≡◌, ℕ, ◌≤◌, Bool, true, false, cond, List, ◌++◌, leb, length, take, drop, replicate, refl, ap, subst, ◌∙◌, arith, leb-true}
+use Rattle.std.proofs.Common.{◌≡◌, ℕ, ◌≤◌, Bool, true, false, cond, List, ◌++◌, Result, Ok, Err, leb, length, take, drop, replicate, refl, ap, ◌∙◌, arith, leb-true}
 use Rattle.std.proofs.lemmas.List.{length-replicate}
-use lib.Seq.{sets, length-sets, take-append_seam}
+use lib.Seq.{sets, take-append_seam}
 use Rattle.memory.specs.Refusals.{number_of}
 use Rattle.memory.specs.declared.Refusal.TheVariants.{NoRoom}
-use Rattle.memory.specs.declared.Verdict.{Verdict}
-use Rattle.memory.specs.declared.Verdict.TheVariants.{Accepted, Refused}
+use Rattle.memory.specs.declared.Refused.{Refused}
 use Rattle.device.specs.Calls.{start_of}
 use Rattle.device.specs.Run.{answers_of}
 use Rattle.device.specs.declared.Device.{Device}
@@ -23,24 +22,21 @@ report_most d (Events es) = go (leb (length (text_of (answers_of d es))) 65536) 
     go false e = omega (arith, answer_most 0 88 (number_of NoRoom))
 report_most d (Stopped why n) = omega (arith, answer_most n 88 (number_of why))
 
-by_most : (v : Verdict) (d : Device) (log : List ℕ) → length (monitor_by v d log) ≤ 65536
+by_most : (r : Result Device Refused) (log : List ℕ) → length (monitor_by r log) ≤ 65536
 unfolding monitor_by
-by_most Accepted d log = report_most d (read_of log)
-by_most (Refused why line) d log = omega (arith, answer_most line 88 (number_of why))
+by_most (Ok d) log = report_most d (read_of log)
+by_most (Err e) log = omega (arith, answer_most e.line 88 (number_of e.why))
 
 pub monitor_most : (image log : List ℕ) → length (monitor_of image log) ≤ 65536
 unfolding monitor_of
-monitor_most image log = by_most (start_of image).verdict (start_of image).device log
+monitor_most image log = by_most (start_of image) log
 
--- what is said of the front of that buffer is said of the text
-pub written : (image log text : List ℕ) (size : ℕ) (P : List ℕ → Type 0) → size ≡ length (monitor_of image log)
-    → text ≡ sets (replicate 65536 0) 0 (monitor_of image log) → (size ≤ length text → P (take size text)) → P (monitor_of image log)
-written image log text size P s t h =
+pub written : (image log text : List ℕ) (size : ℕ) → size ≡ length (monitor_of image log)
+    → text ≡ sets (replicate 65536 0) 0 (monitor_of image log) → take size text ≡ monitor_of image log
+written image log text size s t =
     let zeros : List ℕ = replicate 65536 0 in
     let all = monitor_of image log in
-    let room : length zeros ≡ 65536 = length-replicate {A = ℕ} 65536 0 in
-    let long : length text ≡ 65536 = ap length t ∙ length-sets zeros 0 all ∙ room in
     let most = monitor_most image log in
+    let room : length zeros ≡ 65536 = length-replicate {A = ℕ} 65536 0 in
     let front : sets zeros 0 all ≡ all ++ drop (length all) zeros = front_of all zeros (omega arith) in
-    let there : take size text ≡ all = ap (λ n. take n text) s ∙ ap (take (length all)) (t ∙ front) ∙ take-append_seam all (drop (length all) zeros) in
-    subst P there (h (omega arith))
+    ap (λ n. take n text) s ∙ ap (take (length all)) (t ∙ front) ∙ take-append_seam all (drop (length all) zeros)

@@ -10,7 +10,6 @@ use lib.ListN as ListN
 use lib.Dec.{eqb}
 use Rattle.memory.specs.Bytes.{AllBytes}
 use Rattle.memory.specs.Access.{select_of, control_of, level_in}
-use Rattle.memory.specs.declared.Verdict.TheVariants.{Accepted}
 use Rattle.memory.proofs.AllBytes.{replicate_bytes, set_bytes, page_bytes, cycled_bytes_lem, loaded_bytes, read_byte}
 use Rattle.readings.proofs.AllBytes.{sampled_bytes, taken_most, fast_bytes}
 use Rattle.letters.specs.Letters.{pin_byte}
@@ -22,7 +21,7 @@ use Rattle.device.specs.State.{no_page}
 use Rattle.device.specs.Answers.{value_of}
 use Rattle.device.specs.Bus.{address_in, held_of, low_of, reading_at, started_of, listened_of, gathered_of, byte_in, read_in, stopped_at}
 use Rattle.device.specs.Step.{step_at, step_of}
-use Rattle.device.specs.Calls.{start_of}
+use Rattle.device.specs.Calls.{started_by, Accepted}
 use Rattle.device.specs.Run.{answers_of}
 use Rattle.device.specs.declared.Answer.TheVariants.{Acknowledged, NotAcknowledged}
 use Rattle.device.specs.declared.Phase.{Phase}
@@ -32,6 +31,7 @@ use Rattle.device.proofs.Low.{by_high}
 use Rattle.device.proofs.Runs.{InRange}
 use Rattle.device.proofs.Runs as R
 use Rattle.device.proofs.Steps.{heard_phase}
+use Rattle.device.proofs.SingleEvent.{accepted_loads}
 
 -- the low byte that a phase holds, or 0
 abbrev pub low_in : Phase → ℕ
@@ -98,9 +98,8 @@ step_bytes l d (PinsSet p) h b = with_bytes_lem d _ (set_bytes d.memory.bytes 0x
 step_bytes l d (Sample c raw) h b = with_bytes_lem d _ (sampled_bytes d.memory.bytes c raw h b.memory) refl refl b
 step_bytes l d (FastSample c v) h b = with_bytes_lem d _ (fast_bytes d.memory.bytes c v b.memory) refl refl b
 
-pub start_bytes : (image : List ℕ) → (start_of image).verdict ≡ Accepted → AllBytes image → HoldsBytes (start_of image).device
-unfolding start_of
-start_bytes image e h = record { memory = loaded_bytes image e h; page = no_page_lem; low = omega arith }
+pub start_bytes : (image : List ℕ) → Accepted image → AllBytes image → HoldsBytes (started_by image)
+start_bytes image e h = record { memory = loaded_bytes image _ (accepted_loads image e) h; page = no_page_lem; low = omega arith }
 
 -- ---- an answer
 

@@ -1,7 +1,7 @@
 -- Document 01: when the device is busy, and that it acknowledges nothing then.
 -- Assumes nothing.
 use Prim.Native.Nat.{ℕ, ◌<◌, ◌≤◌}
-use mathlib.Core.Path.{◌≡◌, refl, sym, ◌∙◌}
+use mathlib.Core.Path.{◌≡◌, refl, sym, ap, ◌∙◌}
 use mathlib.Core.Logic.Iff
 use mathlib.Core.Logic.{◌≢◌, ◌⊎◌, inl, inr, ◌↔◌, ⊎_elim}
 use mathlib.Core.Bool.{Bool, true, false, not, ◌&&◌, ◌||◌}
@@ -13,16 +13,16 @@ use Rattle.memory.specs.Bytes.{within, with_bit, mask_of}
 use Rattle.memory.specs.Access.{place_of, level_of, level_in, class_of, writable_at}
 use Rattle.memory.specs.Page.{put_of}
 use Rattle.memory.specs.Power.{cycled_bytes}
-use Rattle.memory.specs.Image.{image_bytes, image_memory, blank_memory, verdict_of, load_of}
+use Rattle.memory.specs.Image.{image_bytes, image_memory}
 use Rattle.memory.proofs.Bools.{and_true, true_false, above_range}
 use Rattle.letters.specs.Letters.{kind_of, Decoded, Known, OutOfRange, UnknownLetter, decode_of}
 use Rattle.letters.specs.declared.Event.{Event}
 use Rattle.letters.specs.declared.Event.TheVariants.{Start, Stop, Byte, Read, WriteDone, PowerCycle, PinsSet, Sample, FastSample}
 use Rattle.letters.specs.declared.Raw.{Raw}
-use Rattle.device.specs.State.{no_page, on_bus, with_busy, at_rest}
+use Rattle.device.specs.State.{no_page, on_bus, with_busy}
 use Rattle.device.specs.Bus.{address_of, held_of, rest_of, cycle_begins, started_of, listened_of, gathered_of, byte_in, stopped_at}
 use Rattle.device.specs.Step.{step_of}
-use Rattle.device.specs.Calls.{start_of, applied_to, apply_of}
+use Rattle.device.specs.Calls.{started_by, applied_to, apply_of}
 use Rattle.device.specs.Run.{after_of}
 use Rattle.device.specs.Secrecy.{Reached}
 use Rattle.device.specs.Busy.{ends_busy, ends_busy_by, none_ends_busy, BusyBegins, FreeAtStart, Silent, BusySilent}
@@ -30,6 +30,7 @@ use Rattle.device.specs.declared.Phase.{Phase}
 use Rattle.device.specs.declared.Phase.TheVariants.{Idle, Listening, Addressed, Writing, Reading, ReadingLow}
 use Rattle.device.specs.declared.Answer.TheVariants.{Acknowledged, NotAcknowledged}
 use Rattle.device.specs.declared.Device.{Device}
+use Rattle.device.proofs.SingleEvent.{started_is}
 use Rattle.device.proofs.Steps.{byte_kept, clock_kept}
 use Rattle.device.proofs.Runs.{reached_after}
 use Rattle.device.proofs.Sound.{Sound, not_busy, reached_sound}
@@ -80,8 +81,7 @@ busy_begins d (Sample c raw) = Iff.rfl
 busy_begins d (FastSample c v) = Iff.rfl
 
 pub free_at_start : FreeAtStart
-unfolding start_of
-free_at_start image = refl
+free_at_start image d e = ap (λ (x : Device). x.internal.busy) (started_is image d e)
 
 -- ---- while it lasts
 
@@ -137,13 +137,13 @@ abbrev busy_one : Device
 busy_one = after_of one (write 0x00 (1 ∷ []) ++ (E ∷ []))
 
 pub met_busy : Reached busy_one × (busy_one.internal.busy ≡ true)
-unfolding after_of apply_of place_of level_of class_of writable_at with_bit mask_of put_of cycled_bytes image_bytes image_memory verdict_of load_of address_of rest_of started_of listened_of gathered_of stopped_at kind_of decode_of start_of
+unfolding after_of apply_of place_of level_of class_of writable_at with_bit mask_of put_of cycled_bytes image_bytes image_memory address_of rest_of started_of listened_of gathered_of stopped_at kind_of decode_of
 met_busy = (reached_after (write 0x00 (1 ∷ []) ++ (E ∷ [])) one reached_one, refl)
 
 -- a made-up device that is busy and addressed acknowledges a byte: that it is a reached one is needed
 pub silent_needs_reached : ((d : Device) → d.internal.busy ≡ true → Silent d) → ⊥
 silent_needs_reached claim =
-    let d = with_busy (on_bus (at_rest blank_memory) Addressed 0x00 no_page) true in
+    let d = with_busy (on_bus (started_by []) Addressed 0x00 no_page) true in
     let e : Acknowledged ≡ NotAcknowledged = (claim d refl).answer 0x00 in
     let z : ◌≡◌ {A = ℕ} 0 1 = cc in
     omega arith

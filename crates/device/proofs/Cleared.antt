@@ -11,13 +11,13 @@ use Rattle.memory.specs.Bytes.{with_bit, mask_of}
 use Rattle.memory.specs.Access.{place_of, level_of, class_of, writable_at}
 use Rattle.memory.specs.Page.{put_of}
 use Rattle.memory.specs.Power.{cycled_bytes}
-use Rattle.memory.specs.Image.{image_bytes, image_memory, verdict_of, load_of}
+use Rattle.memory.specs.Image.{image_bytes, image_memory, load_of}
 use Rattle.readings.specs.Readings.{flagged_of, sampled_of, fast_of}
 use Rattle.readings.specs.Measured.{supply_alarm}
 use Rattle.letters.specs.Letters.{kind_of, decode_of}
 use Rattle.letters.specs.declared.Raw.{Raw}
 use Rattle.device.specs.Bus.{address_of, rest_of, started_of, listened_of, gathered_of, stopped_at}
-use Rattle.device.specs.Calls.{start_of, apply_of}
+use Rattle.device.specs.Calls.{started_by, start_of, apply_of}
 use Rattle.device.specs.Run.{after_of}
 use Rattle.device.specs.Measured.{measures, before_measured, Cycled, by_start}
 use Rattle.device.specs.declared.Device.{Device}
@@ -28,10 +28,10 @@ abbrev image : List ℕ
 image = sets (sets (master_image 0xA2) (in_table3 0xC8) (0x48 ∷ 0x00 ∷ [])) (in_table3 0x88) (0xFF ∷ 0xFF ∷ 0x70 ∷ 0x00 ∷ [])
 
 abbrev pub device : Device
-device = (start_of image).device
+device = started_by image
 
 pub device_cycled : Cycled device
-unfolding verdict_of load_of start_of
+unfolding load_of start_of
 device_cycled = by_start image refl
 
 -- events that do not measure: samples of the other channels, fast samples, pins, what is refused; a stop that holds 70h while E8h bit 5
@@ -50,7 +50,7 @@ pub record Measuring (rs : List Raw) (r : Raw) (up : Bool) : Type 0 where
   pub alarm : supply_alarm (after_of device (rs ++ (r ∷ []))).memory.bytes ≡ up
 
 computed : Measuring unmeasured (A 1 40000) false × (Measuring unmeasured (A 1 20000) true × Measuring (write_control 0x24 ++ write 0x70 (0 ∷ [])) E false)
-unfolding measures before_measured flagged_of sampled_of fast_of place_of level_of class_of writable_at with_bit mask_of put_of cycled_bytes image_bytes image_memory verdict_of load_of address_of rest_of started_of listened_of gathered_of stopped_at kind_of decode_of start_of apply_of after_of
+unfolding measures before_measured flagged_of sampled_of fast_of place_of level_of class_of writable_at with_bit mask_of put_of cycled_bytes image_bytes image_memory address_of rest_of started_of listened_of gathered_of stopped_at kind_of decode_of apply_of after_of
 computed = (record { first = refl; alarm = refl }, (record { first = refl; alarm = refl }, record { first = refl; alarm = refl }))
 
 -- 40,000 is not below the low alarm

@@ -1,29 +1,29 @@
 -- Document 02, 2.1: what `flags_up` tells of a device that was started from an image is the number of 1 bits of 70h to 77h.
 -- Assumes nothing.
+use Rattle.std.specs.Prelude.{Err}
 use Prim.Native.Nat.{ℕ, ◌≤◌}
 use mathlib.Core.Path.{◌≡◌, refl, ap}
 use mathlib.Core.List.{List, [], ◌∷◌, ◌++◌, map}
 use native.Mathlib.Omega.{arith}
 use lib.ListN.{take}
+use Rattle.memory.specs.Refusals.{refused}
 use Rattle.memory.specs.Bytes.{with_bit, mask_of}
 use Rattle.memory.specs.Access.{place_of, level_of, class_of, writable_at}
 use Rattle.memory.specs.Page.{put_of}
 use Rattle.memory.specs.Power.{cycled_bytes}
-use Rattle.memory.specs.Image.{image_bytes, image_memory, verdict_of, load_of}
+use Rattle.memory.specs.Image.{image_bytes, image_memory}
 use Rattle.memory.specs.declared.Refusal.{Refusal}
-use Rattle.memory.specs.declared.Verdict.TheVariants.{Accepted}
 use Rattle.readings.specs.Readings.{flagged_of, sampled_of, fast_of}
 use Rattle.readings.specs.Raised.{ones_of, raised_from, raised_in, raised_after}
 use Rattle.readings.proofs.Raised.{raised_le}
 use Rattle.letters.specs.Letters.{kind_of, decode_of}
 use Rattle.letters.specs.declared.Raw.{Raw}
 use Rattle.device.specs.Bus.{address_of, rest_of, started_of, listened_of, gathered_of, stopped_at}
-use Rattle.device.specs.Calls.{start_of, apply_of}
+use Rattle.device.specs.Calls.{started_by, Accepted, apply_of}
 use Rattle.device.specs.Run.{after_of}
 use Rattle.device.specs.Told.{flags_up}
 use Rattle.device.specs.Secrecy.{Alike, Stranger, Reached, fresh}
 use Rattle.device.specs.declared.Device.{Device}
-use Rattle.device.specs.declared.Reply.TheVariants.{Refused}
 use Rattle.device.proofs.SingleEvent.{refused_left}
 use Rattle.device.proofs.Runs.{reached_after}
 use Rattle.device.proofs.Secrecy.{secrecy}
@@ -35,15 +35,15 @@ pub flags_true : (d : Device) → Reached d → flags_up d ≡ raised_in d.memor
 flags_true d h = (reached_sound d h).raised
 
 -- so from any image that is accepted, after every list of raw events, refused ones among them
-pub flags_after : (image : List ℕ) (rs : List Raw) → (start_of image).verdict ≡ Accepted
-    → let d = after_of (start_of image).device rs in flags_up d ≡ raised_in d.memory.bytes
-flags_after image rs e = flags_true _ (reached_after rs (start_of image).device (fresh image e))
+pub flags_after : (image : List ℕ) (rs : List Raw) → Accepted image
+    → let d = after_of (started_by image) rs in flags_up d ≡ raised_in d.memory.bytes
+flags_after image rs e = flags_true _ (reached_after rs (started_by image) (fresh image e))
 
 pub flags_most : (d : Device) → Reached d → flags_up d ≤ 64
 flags_most d h = omega (arith, flags_true d h, raised_le d.memory.bytes)
 
 -- a refused event leaves it, of any device
-pub flags_refused : (d : Device) (r : Raw) (why : Refusal) (line : ℕ) → (apply_of d r).reply ≡ Refused why line
+pub flags_refused : (d : Device) (r : Raw) (why : Refusal) (line : ℕ) → (apply_of d r).reply ≡ Err (refused why line)
     → flags_up (apply_of d r).device ≡ flags_up d
 flags_refused d r why line e = ap flags_up (refused_left d r why line e)
 
@@ -60,7 +60,7 @@ flags_secret a b rs ra rb q s n = flags_alike _ _ ((secrecy a b rs ra rb q s).al
 
 -- level 2 after the start, all limits and trips 0
 abbrev device : Device
-device = (start_of (master_image 0xA2)).device
+device = started_by (master_image 0xA2)
 
 -- E8h bit 5 set beside bit 2, and eight 1 bits written to 76h and 77h
 abbrev page : List Raw
@@ -81,5 +81,5 @@ told =
     ∷ []
 
 pub flags_worked : map (λ (rs : List Raw). flags_up (after_of device rs)) told ≡ 1 ∷ 3 ∷ 3 ∷ 1 ∷ 4 ∷ 3 ∷ 11 ∷ 1 ∷ []
-unfolding ones_of raised_from raised_after flagged_of sampled_of fast_of place_of level_of class_of writable_at with_bit mask_of put_of cycled_bytes image_bytes image_memory verdict_of load_of address_of rest_of started_of listened_of gathered_of stopped_at kind_of decode_of start_of apply_of after_of
+unfolding ones_of raised_from raised_after flagged_of sampled_of fast_of place_of level_of class_of writable_at with_bit mask_of put_of cycled_bytes image_bytes image_memory address_of rest_of started_of listened_of gathered_of stopped_at kind_of decode_of apply_of after_of
 flags_worked = refl

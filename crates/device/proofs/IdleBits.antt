@@ -1,5 +1,6 @@
 -- Bits that are stored and act on nothing: two devices that differ in such bits alone stay so, and answer alike.
 -- Assumes nothing.
+use Rattle.std.specs.Prelude.{Ok}
 use Prim.Native.Nat.{ℕ, zero, suc, ◌≤◌, ◌<◌}
 use mathlib.Core.Path.{◌≡◌, refl, sym, ap, ap₂, ◌∙◌}
 use mathlib.Core.Bool.{Bool, true, false, ◌&&◌, ◌||◌}
@@ -23,12 +24,10 @@ use Rattle.letters.specs.declared.Event.TheVariants.{Read}
 use Rattle.letters.specs.declared.Raw.{Raw}
 use Rattle.device.specs.State.{with_memory}
 use Rattle.device.specs.Step.{step_of}
-use Rattle.device.specs.Calls.{applied_to, apply_of}
+use Rattle.device.specs.Calls.{Reply, applied_to, apply_of}
 use Rattle.device.specs.Run.{after_of, replies_of}
 use Rattle.device.specs.declared.Internal.{Internal}
 use Rattle.device.specs.declared.Device.{Device}
-use Rattle.device.specs.declared.Reply.{Reply}
-use Rattle.device.specs.declared.Reply.TheVariants.{Answered}
 use Rattle.device.specs.declared.Applied.{Applied}
 use Rattle.device.proofs.Outside.{own_stepped}
 use Rattle.device.proofs.Settings.{outputs_alone}
@@ -147,7 +146,7 @@ applied_idle a b (Known e) h =
     rw level (step_agrees SameActing acting l a b e (record { bytes = h.bytes; asel = h.asel; internal = h.internal })) in
     record {
       device = record { bytes = s.device.bytes; password2 = own a ∙ h.password2 ∙ sym (own b); asel = s.device.asel; internal = s.device.internal };
-      reply = λ c. ap Answered (s.answer (λ last q r. read_same x y l a.internal.pointer h.bytes (rw r at (c last (ap Known q)))));
+      reply = λ c. ap Ok (s.answer (λ last q r. read_same x y l a.internal.pointer h.bytes (rw r at (c last (ap Known q)))));
     }
 applied_idle a b OutOfRange h = record { device = h; reply = λ c. refl }
 applied_idle a b UnknownLetter h = record { device = h; reply = λ c. refl }

@@ -17,7 +17,7 @@ use Rattle.letters.specs.declared.Event.TheVariants.{Start, Stop, Byte, Read, Wr
 use Rattle.letters.specs.declared.Raw.{Raw}
 use Rattle.device.specs.Bus.{address_in, held_of, cycle_begins, reading_at, has_high, started_of, listened_of, gathered_of, byte_in, read_in, stopped_at}
 use Rattle.device.specs.Step.{step_of}
-use Rattle.device.specs.Calls.{start_of, applied_to, apply_of}
+use Rattle.device.specs.Calls.{applied_to, apply_of}
 use Rattle.device.specs.Run.{after_of, ran_of}
 use Rattle.device.specs.Secrecy.{Secure}
 use Rattle.device.specs.Busy.{ends_busy_by, none_ends_busy, BusyAfter}
@@ -167,7 +167,6 @@ pub wear_invariant : WearInvariant
 wear_invariant d rs = along rs d
 
 started_progress : (d : Device) → Cycled d → progress_of d ≡ 1
-unfolding start_of
 started_progress d (by_start image h) = refl
 started_progress d (by_cycle e h) = refl
 

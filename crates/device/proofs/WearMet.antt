@@ -10,7 +10,7 @@ use Rattle.memory.specs.Bytes.{AllBytes, with_bit, mask_of}
 use Rattle.memory.specs.Access.{address_byte, select_of, control_of, place_of, level_of, level_in, class_of, writable_at}
 use Rattle.memory.specs.Page.{put_of}
 use Rattle.memory.specs.Power.{cycled_bytes}
-use Rattle.memory.specs.Image.{image_bytes, image_memory, verdict_of, load_of}
+use Rattle.memory.specs.Image.{image_bytes, image_memory}
 use Rattle.memory.specs.declared.Memory.{Memory}
 use Rattle.memory.proofs.Bools.{true_false}
 use Rattle.memory.proofs.Places.{lower_place}
@@ -23,7 +23,7 @@ use Rattle.letters.proofs.Named.{row_known}
 use Rattle.device.specs.State.{no_page, on_bus}
 use Rattle.device.specs.Bus.{address_of, address_in, rest_of, started_of, listened_of, gathered_of, stopped_at}
 use Rattle.device.specs.Step.{step_of}
-use Rattle.device.specs.Calls.{start_of, apply_of}
+use Rattle.device.specs.Calls.{started_by, apply_of}
 use Rattle.device.specs.Run.{after_of, ran_of}
 use Rattle.device.specs.Transfers.{data_write}
 use Rattle.device.specs.Secrecy.{Reached}
@@ -141,9 +141,9 @@ address_byte_lem m h = go m.asel
 
 pub wear_met : WearMet
 wear_met image n v h =
-    let d = (start_of image).device in
+    let d = started_by image in
     let a = address_in d.memory in
-    (length-map (short_pages a n) raw_of ∙ pages_length a n, cycles_raw d (pages_known a n (address_byte_lem d.memory (start_bytes image v h).memory)) ∙ pages_cycles n d (free_at_start image))
+    (length-map (short_pages a n) raw_of ∙ pages_length a n, cycles_raw d (pages_known a n (address_byte_lem d.memory (start_bytes image v h).memory)) ∙ pages_cycles n d (free_at_start image d v))
 
 -- ---- the condition
 
@@ -152,7 +152,7 @@ abbrev held_one : Device
 held_one = after_of one (write 0x00 (1 ∷ []))
 
 held_cycles : write_cycles held_one (E ∷ []) ≡ 1
-unfolding write_cycles after_of apply_of place_of level_of class_of writable_at with_bit mask_of put_of cycled_bytes image_bytes image_memory verdict_of load_of address_of rest_of started_of listened_of gathered_of stopped_at kind_of decode_of start_of
+unfolding write_cycles after_of apply_of place_of level_of class_of writable_at with_bit mask_of put_of cycled_bytes image_bytes image_memory address_of rest_of started_of listened_of gathered_of stopped_at kind_of decode_of
 held_cycles = refl
 
 pub start_needed : ((d : Device) (rs : List Raw) → Reached d → 6 * write_cycles d rs ≤ length rs + 1) → ⊥

@@ -1,5 +1,5 @@
 -- Document 01, "The bus": when the device is busy, and what it does then. The statements.
-use Rattle.std.specs.Prelude.{ℕ, ◌<◌, ◌≤◌, ◌≡◌, ◌≢◌, ◌⊎◌, ◌↔◌, Bool, true, false, not, ◌&&◌, List, [], ◌∷◌}
+use Rattle.std.specs.Prelude.{ℕ, ◌<◌, ◌≤◌, ◌≡◌, ◌≢◌, ◌⊎◌, ◌↔◌, Bool, true, false, not, ◌&&◌, List, [], ◌∷◌, Ok}
 use Rattle.letters.specs.Letters.{Decoded, Known, OutOfRange, UnknownLetter, decode_of}
 use Rattle.letters.specs.declared.Event.{Event}
 use Rattle.letters.specs.declared.Event.TheVariants.{Start, Stop, Byte, Read, WriteDone, PowerCycle, PinsSet, Sample, FastSample}
@@ -54,7 +54,7 @@ BusyBegins = (d : Device) (e : Event) → ((step_of d e).device.internal.busy �
 
 -- a device that has just started is not busy
 abbrev pub FreeAtStart : Type 0
-FreeAtStart = (image : List ℕ) → (start_of image).device.internal.busy ≡ false
+FreeAtStart = (image : List ℕ) (d : Device) → start_of image ≡ Ok d → d.internal.busy ≡ false
 
 -- a busy device stays busy, and acknowledges no byte, until W or C: after every list of events, refused ones among them, without those two
 pub record Silent (d : Device) : Type 0 where

@@ -1,13 +1,12 @@
 -- Document 02, 2.8: wear of the EEPROM. The number of write cycles, and its bound.
 use Rattle.std.specs.Prelude.{ℕ, zero, suc, ◌+◌, ◌-◌, ◌*◌, ◌≤◌, ◌≡◌, Bool, cond, not, ◌&&◌, List, [], ◌∷◌, ◌++◌, map, eqb, length}
 use Rattle.memory.specs.Bytes.{one_if, AllBytes}
-use Rattle.memory.specs.declared.Verdict.TheVariants.{Accepted}
 use Rattle.letters.specs.Letters.{raw_of}
 use Rattle.letters.specs.declared.Event.{Event}
 use Rattle.letters.specs.declared.Event.TheVariants.{Stop}
 use Rattle.letters.specs.declared.Raw.{Raw}
 use Rattle.device.specs.Bus.{address_in}
-use Rattle.device.specs.Calls.{start_of, apply_of}
+use Rattle.device.specs.Calls.{started_by, Accepted, apply_of}
 use Rattle.device.specs.Run.{after_of}
 use Rattle.device.specs.Transfers.{data_write, page_write}
 use Rattle.device.specs.Measured.{Cycled}
@@ -60,7 +59,7 @@ short_pages address (suc n) = page_write address 0x00 (0 ∷ []) ++ short_pages 
 -- from a device just started, for every image of bytes that is accepted and for every n: 6 n + 5 events with n + 1 write cycles
 abbrev pub WearMet : Type 0
 WearMet =
-    (image : List ℕ) (n : ℕ) → (start_of image).verdict ≡ Accepted → AllBytes image
-    → let d = (start_of image).device in
+    (image : List ℕ) (n : ℕ) → Accepted image → AllBytes image
+    → let d = started_by image in
     let rs = map raw_of (short_pages (address_in d.memory) n) in
     (length rs ≡ 6 * n + 5) × (write_cycles d rs ≡ n + 1)

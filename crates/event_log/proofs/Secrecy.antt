@@ -4,6 +4,7 @@
 use Prim.Native.Nat.{ℕ, zero, suc}
 use mathlib.Core.Path.{◌≡◌, refl, sym, ap, ap₂, ◌∙◌}
 use mathlib.Core.Bool.{Bool, true, false, cond}
+use Rattle.std.specs.Prelude.{Ok, Ok}
 use mathlib.Core.List.{List, [], ◌∷◌, map}
 use native.Mathlib.Omega.{arith}
 use lib.Dec.{leb}
@@ -12,13 +13,12 @@ use lib.Seq.{take-length, take-nil, drop-nil}
 use Rattle.letters.specs.Letters.{raw_of}
 use Rattle.letters.specs.declared.Event.{Event}
 use Rattle.letters.specs.declared.Raw.{Raw}
-use Rattle.device.specs.Calls.{apply_of}
+use Rattle.device.specs.Calls.{Reply, apply_of}
 use Rattle.device.specs.Run.{after_of, replies_of, ran_of, answers_of}
 use Rattle.device.specs.Wear.{write_cycles}
 use Rattle.device.specs.Secrecy.{Alike, stored_of, Reached, later}
 use Rattle.device.specs.declared.Device.{Device}
 use Rattle.device.specs.declared.Answer.{Answer}
-use Rattle.device.specs.declared.Reply.TheVariants.{Answered}
 use Rattle.device.proofs.Runs.{reached_after, as_raw}
 use Rattle.device.proofs.Secrecy.{secrecy}
 use Rattle.device.proofs.Wear.{cycles_alike}
@@ -26,18 +26,17 @@ use Rattle.arbitration.specs.Arbitration.{events_of, arbitrate_of}
 use Rattle.event_log.specs.Log.{Read, Events, Stopped, read_of}
 use Rattle.event_log.specs.Run.{text_of, ran_by, run_of, buffer_by, buffer_of}
 use Rattle.event_log.specs.Secrecy.{Call, Single, Log, Arbitrate, Result, Replied, result_of, called_of, after_calls, results_of, raws_in, events_in, first_events, moment_of, CallsSecrecy}
-use Rattle.event_log.specs.declared.Outcome.TheVariants.{Done}
 use Rattle.event_log.proofs.Flags.{reached_run}
 use Rattle.event_log.proofs.Results.{ended}
 use Rattle.event_log.proofs.RoundTrip.{read_known}
 
-same_answers : (xs ys : List Answer) → map Answered xs ≡ map Answered ys → xs ≡ ys
+same_answers : (xs ys : List Answer) → map {B = Reply} Ok xs ≡ map {B = Reply} Ok ys → xs ≡ ys
 same_answers [] [] q = refl
 same_answers [] (y ∷ ys) q = let z : ◌≡◌ {A = ℕ} 0 1 = cc in absurd (omega arith)
 same_answers (x ∷ xs) [] q = let z : ◌≡◌ {A = ℕ} 0 1 = cc in absurd (omega arith)
 same_answers (x ∷ xs) (y ∷ ys) q =
     let h : x ≡ y = cc in
-    let t : map Answered xs ≡ map Answered ys = cc in
+    let t : map {B = Reply} Ok xs ≡ map {B = Reply} Ok ys = cc in
     rw (h, same_answers xs ys t)
 
 -- ---- one call
@@ -53,7 +52,7 @@ record SameCall (a b : Device) (c : Call) : Type 0 where
 ended_same : (a b : Device) (es : List Event) (f g : Bool) → f ≡ g
     → answers_of a es ≡ answers_of b es → write_cycles a (map raw_of es) ≡ write_cycles b (map raw_of es)
     → ((ended a es f).outcome ≡ (ended b es g).outcome) × ((ended a es f).cycles ≡ (ended b es g).cycles)
-ended_same a b es f true e y n = rw e (ap (λ (ys : List Answer). Done (length (text_of ys))) y, n)
+ended_same a b es f true e y n = rw e (ap (λ (ys : List Answer). Ok (length (text_of ys))) y, n)
 ended_same a b es f false e y n = rw e (refl, refl)
 
 -- how many events of a run are kept, by whether the answers fit

@@ -3,6 +3,7 @@
 use Prim.Native.Nat.{ℕ, ◌+◌, ◌≤◌}
 use mathlib.Core.Path.{◌≡◌, refl, sym, ap, ap₂, ◌∙◌}
 use mathlib.Core.Bool.{Bool, true, false}
+use Rattle.std.specs.Prelude.{Ok, Err}
 use mathlib.Core.List.{List, [], ◌∷◌, map}
 use native.Mathlib.Nat.{add-zero}
 use native.Mathlib.Omega.{arith}
@@ -20,12 +21,10 @@ use Rattle.device.proofs.Wear.{wear_bound, wear_most, cycles_append, cycles_once
 use Rattle.arbitration.specs.Arbitration.{events_of, arbitrate_of}
 use Rattle.arbitration.proofs.Events.{events_stay}
 use Rattle.event_log.specs.Log.{Read, Events, Stopped, read_of}
-use Rattle.event_log.specs.Run.{text_of, ran_by, run_of}
+use Rattle.event_log.specs.Run.{Outcome, text_of, ran_by, run_of}
 use Rattle.event_log.specs.Secrecy.{Call, Single, Log, Arbitrate, called_of, after_calls, raws_in, events_in}
 use Rattle.event_log.specs.Wear.{call_cycles, calls_cycles, unless_refused, events_run, all_events_run, CallsWear, CallsWearBound}
 use Rattle.event_log.specs.declared.Ran.{Ran}
-use Rattle.event_log.specs.declared.Outcome.{Outcome}
-use Rattle.event_log.specs.declared.Outcome.TheVariants.{Done, Refused}
 use Rattle.event_log.proofs.Results.{ended}
 use Rattle.event_log.proofs.Lengths.{events_most}
 use Rattle.event_log.proofs.RoundTrip.{read_known}
@@ -75,10 +74,10 @@ calls_wear_bound d cs h = rw (calls_wear d cs).0 (wear_bound d (all_events_run d
 -- a log has at most 5,461 events, read to its end or not
 few_raws : (log : List ℕ) (o : Read) (y : Outcome) → read_of log ≡ o → length (unless_refused y (raws_in o)) ≤ 5461
 unfolding raws_in
-few_raws log (Events es) (Done size) e = omega (arith, length-map es raw_of, events_most log es e)
-few_raws log (Events es) (Refused why line) e = omega arith
-few_raws log (Stopped why n) (Done size) e = omega arith
-few_raws log (Stopped why n) (Refused y line) e = omega arith
+few_raws log (Events es) (Ok size) e = omega (arith, length-map es raw_of, events_most log es e)
+few_raws log (Events es) (Err r) e = omega arith
+few_raws log (Stopped why n) (Ok size) e = omega arith
+few_raws log (Stopped why n) (Err r) e = omega arith
 
 -- so a run has at most 911 write cycles, whatever the device, and at most 910 from a start or a C
 pub run_cycles_most : (d : Device) (log : List ℕ) (room : ℕ) → ((run_of d log room).cycles ≤ 911) × (Cycled d → (run_of d log room).cycles ≤ 910)

@@ -3,6 +3,7 @@
 use Prim.Native.Nat.{ℕ, zero, suc}
 use mathlib.Core.Path.{◌≡◌, refl, sym, ap, ◌∙◌}
 use mathlib.Core.Bool.{Bool, true, ◌&&◌}
+use Rattle.std.specs.Prelude.{Ok, Err}
 use mathlib.Core.List.{List, [], ◌∷◌, ◌++◌}
 use native.Mathlib.Omega.{arith}
 use lib.ListN.{get_or, replicate}
@@ -10,14 +11,14 @@ use Rattle.memory.specs.Bytes.{with_bit, mask_of}
 use Rattle.memory.specs.Access.{place_of, level_of, class_of, writable_at, read_at}
 use Rattle.memory.specs.Page.{put_of}
 use Rattle.memory.specs.Power.{cycled_bytes}
-use Rattle.memory.specs.Image.{image_bytes, image_memory, verdict_of, load_of}
+use Rattle.memory.specs.Image.{image_bytes, image_memory}
 use Rattle.memory.proofs.Bools.{and_true}
 use Rattle.readings.specs.Readings.{flagged_of, sampled_of, fast_of}
 use Rattle.letters.specs.Letters.{kind_of, decode_of, raw_of}
 use Rattle.lines.specs.Numbers.{scan_from, number_of, decimal}
 use Rattle.lines.specs.Rows.{expect, valued, channelled, row_at, row_text}
 use Rattle.device.specs.Bus.{address_of, rest_of, reading_at, started_of, listened_of, gathered_of, stopped_at}
-use Rattle.device.specs.Calls.{start_of, apply_of}
+use Rattle.device.specs.Calls.{apply_of}
 use Rattle.device.specs.Run.{after_of, ran_of, answers_of}
 use Rattle.device.specs.Secrecy.{Alike, Stranger, Reached}
 use Rattle.device.specs.declared.Device.{Device}
@@ -26,12 +27,11 @@ use Rattle.device.proofs.Traffic.{S, E, B, R, C, A, I, write, read_from}
 use Rattle.device.proofs.Witness.{quiet, stranger, one, two, reached_one, reached_two, alike_two}
 use Rattle.arbitration.specs.Line.{bits_from, bits_of, hosts_after, winner_of}
 use Rattle.arbitration.specs.Arbitration.{begins, outcome_of, events_of, arbitrate_of}
-use Rattle.event_log.specs.Lines.{judged_by, line_of, refused_at}
+use Rattle.event_log.specs.Lines.{judged_by, line_of}
 use Rattle.event_log.specs.Log.{more, followed, unless_empty, lines_of, read_of}
 use Rattle.event_log.specs.Write.{write_of}
 use Rattle.event_log.specs.Run.{answer_line, lines_from, ran_by, run_of}
 use Rattle.event_log.specs.Secrecy.{Call, Single, Log, Arbitrate, Result, Replied, Ran, Arbitrated, result_of, called_of, after_calls, results_of, raws_in, events_in, first_events, moment_of, SecureCalls}
-use Rattle.event_log.specs.declared.Outcome.TheVariants.{Done, Refused}
 use Rattle.event_log.proofs.Secrecy.{calls_secrecy, moment_none}
 
 -- a test of the device that is met at each moment of calls
@@ -60,7 +60,7 @@ calls =
     ∷ []
 
 both_quiet : (each_moment quiet one calls && each_moment quiet two calls) ≡ true
-unfolding each_moment each_time called_of events_in raws_in run_of ran_by read_of lines_of unless_empty followed more line_of judged_by refused_at write_of lines_from answer_line row_at row_text expect valued channelled scan_from number_of decimal ran_of answers_of raw_of place_of level_of class_of writable_at read_at with_bit mask_of put_of cycled_bytes image_bytes image_memory verdict_of load_of flagged_of sampled_of fast_of address_of rest_of reading_at started_of listened_of gathered_of stopped_at kind_of decode_of start_of apply_of arbitrate_of events_of outcome_of begins winner_of hosts_after bits_of bits_from after_of
+unfolding each_moment each_time called_of events_in raws_in run_of ran_by read_of lines_of unless_empty followed more line_of judged_by write_of lines_from answer_line row_at row_text expect valued channelled scan_from number_of decimal ran_of answers_of raw_of place_of level_of class_of writable_at read_at with_bit mask_of put_of cycled_bytes image_bytes image_memory flagged_of sampled_of fast_of address_of rest_of reading_at started_of listened_of gathered_of stopped_at kind_of decode_of apply_of arbitrate_of events_of outcome_of begins winner_of hosts_after bits_of bits_from after_of
 both_quiet = refl
 
 -- at no moment does the entry of either equal a password
@@ -81,8 +81,8 @@ enters = Log (write_of (write 0x7B (1 ∷ 2 ∷ 3 ∷ 4 ∷ 1 ∷ []) ++ (E ∷ 
 
 size_of : Result → ℕ
 size_of (Replied y) = 0
-size_of (Ran (Done n) cycles b) = n
-size_of (Ran (Refused why line) cycles b) = 0
+size_of (Ran (Ok n) cycles b) = n
+size_of (Ran (Err r) cycles b) = 0
 size_of (Arbitrated x) = 0
 
 -- nine answer lines of six bytes and seven of seven, where the byte is 00h; the second device gives 255, which has two digits more
@@ -93,7 +93,7 @@ record Leaked : Type 0 where
   two_quiet : (quiet two && quiet (called_of two enters)) ≡ true
 
 leaked : Leaked
-unfolding size_of result_of called_of run_of ran_by read_of lines_of unless_empty followed more line_of judged_by refused_at write_of lines_from answer_line row_at row_text expect valued channelled scan_from number_of decimal ran_of answers_of place_of level_of class_of writable_at read_at with_bit mask_of put_of cycled_bytes image_bytes image_memory verdict_of load_of address_of rest_of reading_at started_of listened_of gathered_of stopped_at kind_of decode_of start_of
+unfolding size_of result_of called_of run_of ran_by read_of lines_of unless_empty followed more line_of judged_by write_of lines_from answer_line row_at row_text expect valued channelled scan_from number_of decimal ran_of answers_of place_of level_of class_of writable_at read_at with_bit mask_of put_of cycled_bytes image_bytes image_memory address_of rest_of reading_at started_of listened_of gathered_of stopped_at kind_of decode_of
 leaked = record { one_size = refl; two_size = refl; one_quiet = refl; two_quiet = refl }
 
 -- before and after the log, not inside it
@@ -108,5 +108,5 @@ pub inside_needed : ((a b : Device) (cs : List Call) → Reached a → Reached b
 unfolding results_of
 inside_needed claim =
     let f = claim one two (enters ∷ []) reached_one reached_two alike_two (λ n. (between one leaked.one_quiet n, between two leaked.two_quiet n)) in
-    let same = ap (λ (l : List Result). size_of (get_or l 0 (Ran (Done 0) 0 []))) f.results in
+    let same = ap (λ (l : List Result). size_of (get_or l 0 (Ran (Ok 0) 0 []))) f.results in
     omega (arith, sym leaked.one_size ∙ same ∙ leaked.two_size)

@@ -3,16 +3,13 @@
 use Rattle.std.specs.Prelude.{ℕ, ◌≡◌, List, [], ◌∷◌, map, length, take, drop}
 use Rattle.letters.specs.Letters.{raw_of}
 use Rattle.letters.specs.declared.Raw.{Raw}
-use Rattle.device.specs.Calls.{apply_of}
+use Rattle.device.specs.Calls.{Reply, apply_of}
 use Rattle.device.specs.Run.{after_of}
 use Rattle.device.specs.Secrecy.{Alike, stored_of, Stranger, Reached}
 use Rattle.device.specs.declared.Device.{Device}
-use Rattle.device.specs.declared.Reply.{Reply}
-use Rattle.arbitration.specs.Arbitration.{events_of, arbitrate_of}
-use Rattle.arbitration.specs.declared.Arbitration.{Arbitration}
+use Rattle.arbitration.specs.Arbitration.{Arbitration, events_of, arbitrate_of}
 use Rattle.event_log.specs.Log.{Read, Events, Stopped, read_of}
-use Rattle.event_log.specs.Run.{run_of, buffer_of}
-use Rattle.event_log.specs.declared.Outcome.{Outcome}
+use Rattle.event_log.specs.Run.{Outcome, run_of, buffer_of}
 
 -- a call: a single event; a log with an answer buffer; two messages of hosts that start together (2.9). A call that a request adds joins here
 pub data Call : Type 0 where

@@ -1,6 +1,6 @@
 -- Document 02, 2.8, for whatever a host calls of a device that it keeps: the write cycles of single events, logs and two hosts on one line, in any
 -- mix and number. The statements.
-use Rattle.std.specs.Prelude.{ℕ, ◌+◌, ◌*◌, ◌≤◌, ◌≡◌, List, [], ◌∷◌, ◌++◌, length}
+use Rattle.std.specs.Prelude.{ℕ, ◌+◌, ◌*◌, ◌≤◌, ◌≡◌, Ok, Err, List, [], ◌∷◌, ◌++◌, length}
 use Rattle.letters.specs.declared.Raw.{Raw}
 use Rattle.device.specs.Calls.{apply_of}
 use Rattle.device.specs.Run.{after_of}
@@ -8,10 +8,8 @@ use Rattle.device.specs.Measured.{Cycled}
 use Rattle.device.specs.Wear.{cycles_begun, write_cycles}
 use Rattle.device.specs.declared.Device.{Device}
 use Rattle.arbitration.specs.Arbitration.{arbitrate_of}
-use Rattle.event_log.specs.Run.{run_of}
+use Rattle.event_log.specs.Run.{Outcome, run_of}
 use Rattle.event_log.specs.Secrecy.{Call, Single, Log, Arbitrate, called_of, after_calls, events_in}
-use Rattle.event_log.specs.declared.Outcome.{Outcome}
-use Rattle.event_log.specs.declared.Outcome.TheVariants.{Done, Refused}
 
 -- the number of a call: of a single event, and of two hosts on one line, by busy before and after it, of a log what its run returns
 unfoldable pub call_cycles : Device → Call → ℕ
@@ -26,8 +24,8 @@ calls_cycles d (c ∷ cs) = call_cycles d c + calls_cycles (called_of d c) cs
 
 -- the events that a call ran: a log that is refused ran none
 abbrev pub unless_refused : Outcome → List Raw → List Raw
-unless_refused (Done size) rs = rs
-unless_refused (Refused why line) rs = []
+unless_refused (Ok size) rs = rs
+unless_refused (Err r) rs = []
 
 unfoldable pub events_run : Device → Call → List Raw
 events_run d (Single r) = r ∷ []

@@ -1,7 +1,7 @@
 -- Demand 1 at C's numbers, from demand 1 for what the calls return in Rattle.
 -- Assumes nothing.
 use Prim.Native.Nat.{ℕ, ◌+◌, ◌*◌, ◌/◌, ◌%◌, ◌^◌, ◌<◌, ◌≤◌}
-use mathlib.Core.Path.{◌≡◌, refl, ap}
+use mathlib.Core.Path.{◌≡◌, refl, sym, ap}
 use mathlib.Core.Logic.{⊎_elim, inl, inr, ◌≢◌}
 use mathlib.Core.Bool.{cond}
 use mathlib.Core.Option.{Option, none, some}
@@ -10,33 +10,29 @@ use native.Mathlib.Omega.{arith}
 use lib.Dec.{eqb}
 use lib.ListN.{length}
 use borrow.Author.Tests.{ne_eqb}
-use Rattle.memory.specs.Refusals.{number_of, Refuses, Returns}
+use Rattle.std.specs.Prelude.{Result, Ok, Err, IsOk}
+use Rattle.memory.specs.Refusals.{number_of, refused, Refuses, Returns}
+use Rattle.memory.specs.declared.Refused.{Refused}
+use Rattle.memory.proofs.Bools.{true_false}
 use Rattle.memory.specs.declared.Refusal.{Refusal}
 use Rattle.memory.specs.declared.Refusal.TheVariants.{LogTooLong, BrokenLine, OutsideRange, NoRoom, ImageSize, AselByte, MemorySize, Checksum, Coefficient, MessageLength, FirstByteOdd, MessagePrefix}
-use Rattle.memory.proofs.Returns.{At, at, returns_by}
+use Rattle.memory.proofs.Returns.{returns_by}
 use Rattle.letters.specs.declared.Raw.{Raw}
-use Rattle.device.specs.Calls.{start_of, apply_of, StartRefused, image_size, asel_byte, EventRefused, outside_range, is_answer}
-use Rattle.device.specs.declared.Reply.{Reply}
-use Rattle.device.specs.declared.Reply.TheVariants as Replies
+use Rattle.device.specs.Calls.{Reply, start_of, apply_of, StartRefused, image_size, asel_byte, EventRefused, outside_range}
 use Rattle.device.proofs.SingleEvent.{start_returns, event_returns}
-use Rattle.event_log.specs.Run.{run_of, buffer_of}
+use Rattle.event_log.specs.Run.{Outcome, run_of, buffer_of}
 use Rattle.event_log.specs.Write.{written_of}
-use Rattle.event_log.specs.Refused.{WriteRefused, event_outside, text_too_long, no_text_room, is_done}
-use Rattle.event_log.specs.declared.Outcome.{Outcome}
-use Rattle.event_log.specs.declared.Outcome.TheVariants as Outcomes
+use Rattle.event_log.specs.Refused.{WriteRefused, event_outside, text_too_long, no_text_room}
 use Rattle.event_log.proofs.Refused.{run_returns, write_returns}
 use Rattle.event_log.proofs.LineCount.{refused_line}
-use Rattle.arbitration.specs.Arbitration.{arbitrate_of, ArbitrateRefused, message_length, first_byte_odd, message_prefix, is_won}
-use Rattle.arbitration.specs.declared.Arbitration.{Arbitration}
-use Rattle.arbitration.specs.declared.Arbitration.TheVariants as Arbitrations
+use Rattle.arbitration.specs.Arbitration.{Arbitration, arbitrate_of, ArbitrateRefused, message_length, first_byte_odd, message_prefix}
 use Rattle.arbitration.proofs.Returned.{arbitrate_returns}
-use Rattle.calibration.specs.Calibration.{calibrated_of, CalibrateRefused, memory_size, checksum, coefficient, is_given}
+use Rattle.calibration.specs.Calibration.{calibrated_of, CalibrateRefused, memory_size, checksum, coefficient}
 use Rattle.calibration.specs.declared.Raws.{Raws}
-use Rattle.calibration.specs.declared.Calibrated.{Calibrated}
-use Rattle.calibration.specs.declared.Calibrated.TheVariants as Calibrations
+use Rattle.calibration.specs.declared.Values.{Values}
 use Rattle.calibration.proofs.Checked.{calibrate_returns}
 use Rattle.host.specs.State.{Lent, device_of}
-use Rattle.host.specs.Numbers.{verdict_number, reply_number, arbitration_number, outcome_number}
+use Rattle.host.specs.Numbers.{start_number, reply_number, arbitration_number, outcome_number}
 use Rattle.host.specs.Calls.{start_call, apply_call, run_call, cycles_call, arbitrate_call}
 use Rattle.host.specs.Values.{Five, five_after, calibrated_number}
 use Rattle.host.specs.Returned.{says_number, says_line, HostStartReturns, HostEventReturns, HostRunReturns, HostWriteReturns, HostCalibrateReturns, HostArbitrateReturns}
@@ -94,28 +90,28 @@ refusal_none n h =
     )
 
 -- with a line
-at_line : ℕ → Option Refusal → Option At
+at_line : ℕ → Option Refusal → Option Refused
 at_line line none = none
-at_line line (some why) = some (at why line)
+at_line line (some why) = some (refused why line)
 
 -- ---- from what a call returns to its number
 
-module _ {R : Type 0} {answers : R → Type 0} {refused : Refusal → ℕ → R} {when : Refusal → ℕ → Type 0} {left : Type 0} {result : R}
-    (F : Returns answers (λ why line x. x ≡ refused why line) when left result) (code : R → ℕ) where
-  number_returns : {answers' : ℕ → Type 0} {says : Refusal → ℕ → ℕ → Type 0} {left' : Type 0} (told : ℕ → Option At)
+module _ {R : Type 0} {answers : R → Type 0} {says_in : Refusal → ℕ → R} {when : Refusal → ℕ → Type 0} {left : Type 0} {result : R}
+    (F : Returns answers (λ why line x. x ≡ says_in why line) when left result) (code : R → ℕ) where
+  number_returns : {answers' : ℕ → Type 0} {says : Refusal → ℕ → ℕ → Type 0} {left' : Type 0} (told : ℕ → Option Refused)
       → (answers result → answers' (code result)) → (answers' (code result) → told (code result) ≡ none)
-      → ((why : Refusal) (line : ℕ) → when why line → says why line (code (refused why line)))
-      → ((why : Refusal) (line : ℕ) → says why line (code result) → told (code result) ≡ some (at why line))
+      → ((why : Refusal) (line : ℕ) → when why line → says why line (code (says_in why line)))
+      → ((why : Refusal) (line : ℕ) → says why line (code result) → told (code result) ≡ some (refused why line))
       → (Refuses when → left') → Returns answers' says when left' (code result)
   number_returns told a n w s k =
       returns_by told n s (⊎_elim (λ x. inl (a x)) (λ x. inr x) F.either) (λ why line x. rw ((F.exactly why line).1 x) (w why line x)) k
 
 -- ---- the calls whose refusals have line 0
 
-number_told : ℕ → Option At
+number_told : ℕ → Option Refused
 number_told n = at_line 0 (refusal_at n)
 
-number_tells : (n : ℕ) (why : Refusal) (line : ℕ) → says_number why line n → number_told n ≡ some (at why line)
+number_tells : (n : ℕ) (why : Refusal) (line : ℕ) → says_number why line n → number_told n ≡ some (refused why line)
 unfolding number_told at_line
 number_tells n why line s = rw (s.0, refusal_at_lem why, s.1)
 
@@ -134,16 +130,16 @@ pub host_start_returns : HostStartReturns
 unfolding start_call
 host_start_returns l image =
     let F = start_returns image in
-    number_returns F verdict_number number_told (λ a. ap verdict_number a) (zero_none (verdict_number (start_of image).verdict))
-    (λ why line x. (refl, start_zero image why line x)) (number_tells (verdict_number (start_of image).verdict))
+    number_returns F start_number number_told (λ a. ap start_number a) (zero_none (start_number (start_of image)))
+    (λ why line x. (refl, start_zero image why line x)) (number_tells (start_number (start_of image)))
     (λ r. rw ((F.exactly r.why r.line).1 r.circumstance))
 
 event_zero : (e : Raw) (why : Refusal) (line : ℕ) → EventRefused e why line → line ≡ 0
 event_zero e why line (outside_range h) = refl
 
-answer_number_lem : (y : Reply) → is_answer y → 256 ≤ reply_number y
-answer_number_lem (Replies.Answered a) h = answer_high a
-answer_number_lem (Replies.Refused why line) h = absurd h
+answer_number_lem : (y : Reply) → IsOk y → 256 ≤ reply_number y
+answer_number_lem (Ok a) h = answer_high a
+answer_number_lem (Err e) h = true_false (sym h)
 
 pub host_event_returns : HostEventReturns
 unfolding apply_call
@@ -160,9 +156,9 @@ calibrate_zero l why line (memory_size h) = refl
 calibrate_zero l why line (checksum h g) = refl
 calibrate_zero l why line (coefficient h g f) = refl
 
-given_number : (x : Calibrated) → is_given x → calibrated_number x ≡ 0
-given_number (Calibrations.Given v) h = refl
-given_number (Calibrations.Refused why line) h = absurd h
+given_number : (x : Result Values Refused) → IsOk x → calibrated_number x ≡ 0
+given_number (Ok v) h = refl
+given_number (Err e) h = true_false (sym h)
 
 pub host_calibrate_returns : HostCalibrateReturns
 host_calibrate_returns held l raws =
@@ -177,9 +173,9 @@ arbitrate_zero m n why line (message_length h) = refl
 arbitrate_zero m n why line (first_byte_odd s h) = refl
 arbitrate_zero m n why line (message_prefix s e b) = refl
 
-won_number : (x : Arbitration) → is_won x → (1 ≤ arbitration_number x) × (arbitration_number x ≤ 3)
-won_number (Arbitrations.Won w) h = winner_within w
-won_number (Arbitrations.Refused why line) h = absurd h
+won_number : (x : Arbitration) → IsOk x → (1 ≤ arbitration_number x) × (arbitration_number x ≤ 3)
+won_number (Ok w) h = winner_within w
+won_number (Err e) h = true_false (sym h)
 
 pub host_arbitrate_returns : HostArbitrateReturns
 unfolding arbitrate_call
@@ -193,10 +189,10 @@ host_arbitrate_returns l m n =
 
 -- ---- the run and the writer
 
-line_told : ℕ → Option At
+line_told : ℕ → Option Refused
 line_told n = at_line (n % 2 ^ 32) (refusal_at (n / 2 ^ 32))
 
-line_tells : (n : ℕ) (why : Refusal) (line : ℕ) → says_line why line n → line_told n ≡ some (at why line)
+line_tells : (n : ℕ) (why : Refusal) (line : ℕ) → says_line why line n → line_told n ≡ some (refused why line)
 unfolding line_told at_line
 line_tells n why line s = rw (s.0, refusal_at_lem why, s.1)
 
@@ -204,12 +200,12 @@ line_none : (n : ℕ) → n < 2 ^ 32 → line_told n ≡ none
 unfolding line_told at_line refusal_at
 line_none n h = let e : n / 2 ^ 32 ≡ 0 = omega (arith, h) in rw e
 
-done_number : (o : Outcome) → rest_in o < 2 ^ 32 → is_done o → outcome_number o < 2 ^ 32
-done_number (Outcomes.Done size) h d = h
-done_number (Outcomes.Refused why line) h d = absurd d
+done_number : (o : Outcome) → rest_in o < 2 ^ 32 → IsOk o → outcome_number o < 2 ^ 32
+done_number (Ok size) h d = h
+done_number (Err e) h d = true_false (sym d)
 
 line_says : (why : Refusal) (line : ℕ) → line < 2 ^ 32 → says_line why line (number_of why * 2 ^ 32 + line)
-line_says why line h = (refusal_back (Outcomes.Refused why line) h, rest_back (Outcomes.Refused why line) h)
+line_says why line h = (refusal_back (Err (refused why line)) h, rest_back (Err (refused why line)) h)
 
 pub host_run_returns : HostRunReturns
 unfolding run_call cycles_call

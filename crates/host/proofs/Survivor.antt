@@ -7,11 +7,10 @@ use mathlib.Core.Logic.{◌↔◌}
 use mathlib.Core.Bool.{cond}
 use native.Mathlib.Omega.{arith}
 use lib.Dec.{eqb}
-use Rattle.arbitration.specs.Arbitration.{arbitrate_of}
+use Rattle.std.specs.Prelude.{Ok, Err}
+use Rattle.arbitration.specs.Arbitration.{Arbitration, arbitrate_of}
 use Rattle.arbitration.specs.declared.Winner.{Winner}
 use Rattle.arbitration.specs.declared.Winner.TheVariants.{First, Second, Both}
-use Rattle.arbitration.specs.declared.Arbitration.{Arbitration}
-use Rattle.arbitration.specs.declared.Arbitration.TheVariants.{Won, Refused}
 use Rattle.arbitration.proofs.Survivor.{smaller_survives}
 use Rattle.host.specs.State.{device_of}
 use Rattle.host.specs.Numbers.{winner_number, arbitration_number}
@@ -28,9 +27,9 @@ winner_at_lem First = refl
 winner_at_lem Second = refl
 winner_at_lem Both = refl
 
-number_won : (w : Winner) (x : Arbitration) → (arbitration_number x ≡ winner_number w) ↔ (x ≡ Won w)
-number_won w (Won v) = (λ e. ap Won (sym (winner_at_lem v) ∙ ap winner_at e ∙ winner_at_lem w), ap arbitration_number)
-number_won w (Refused why line) = (λ e. absurd (omega (arith, (refusal_low why).0, (winner_within w).1)), ap arbitration_number)
+number_won : (w : Winner) (x : Arbitration) → (arbitration_number x ≡ winner_number w) ↔ (x ≡ Ok w)
+number_won w (Ok v) = (λ e. ap Ok (sym (winner_at_lem v) ∙ ap winner_at e ∙ winner_at_lem w), ap arbitration_number)
+number_won w (Err r) = (λ e. absurd (omega (arith, (refusal_low r.why).0, (winner_within w).1)), ap arbitration_number)
 
 pub host_survivor : HostSurvivor
 unfolding arbitrate_call arbitrate_of

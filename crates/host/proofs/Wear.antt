@@ -9,7 +9,7 @@ use lib.Dec.{eqb, leb}
 use lib.ListN.{length}
 use Rattle.memory.specs.Bytes.{one_if}
 use Rattle.letters.specs.declared.Event.{Event}
-use Rattle.device.specs.Calls.{start_of, apply_of}
+use Rattle.device.specs.Calls.{started_by, apply_of}
 use Rattle.device.specs.Run.{answers_of}
 use Rattle.device.specs.Measured.{Cycled, by_start}
 use Rattle.device.specs.Wear.{cycles_begun}
@@ -73,4 +73,4 @@ host_wear_bound l cs h = rw (host_wear l cs) (calls_wear_bound (device_of l) cs 
 pub cycled_start : (l : Lent) (image : List ℕ) → (start_call l image).number ≡ 0 → Cycled (device_of (start_call l image).left)
 cycled_start l image h =
     let e = accepted_start l image h in
-    rw (kept_start l image e, back (start_of image).device) (by_start image e)
+    rw (kept_start l image e, back (started_by image)) (by_start image e)

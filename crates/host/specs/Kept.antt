@@ -1,6 +1,6 @@
 -- What a log over a kept device returns.
 use Rattle.event_log.specs.declared.Ran.{Ran}
-use Rattle.host.specs.declared.RunSummary.{RunSummary}
+use Rattle.event_log.specs.declared.RunSummary.{RunSummary}
 
 -- the run without its device
 abbrev pub summary_of : Ran → RunSummary

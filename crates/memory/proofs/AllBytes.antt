@@ -14,8 +14,10 @@ use Rattle.memory.specs.Power.{cycled_lower, cycled_bytes}
 use Rattle.memory.specs.Image.{image_bytes, image_memory, load_of}
 use Rattle.memory.specs.declared.Class.{Class}
 use Rattle.memory.specs.declared.Class.TheVariants.{Eeprom, Status, Hidden, Free, Flags, FastFlags, Entry, Upper}
-use Rattle.memory.specs.declared.Verdict.TheVariants.{Accepted}
+use Rattle.memory.specs.declared.Memory.{Memory}
+use Rattle.std.specs.Prelude.{Ok}
 use Rattle.memory.proofs.Stored.{page_keeps}
+use Rattle.memory.proofs.Whole.{loaded_as}
 
 -- ---- lists
 
@@ -76,15 +78,15 @@ cycled_bytes_lem b h =
     (set_bytes (cycled_lower b) 0x70 0x10 (sets_bytes entry y 0x7B q e) (omega arith))
     (omega arith)
 
-pub loaded_bytes : (image : List ℕ) → (load_of image).verdict ≡ Accepted → AllBytes image → AllBytes (load_of image).memory.bytes
-unfolding load_of image_memory image_bytes
-loaded_bytes image e h =
+pub loaded_bytes : (image : List ℕ) (m : Memory) → load_of image ≡ Ok m → AllBytes image → AllBytes m.bytes
+unfolding image_memory image_bytes
+loaded_bytes image m e h =
     let lower = take 96 image ++ replicate 32 0 in
     let first = take 384 (drop 96 image) in
     let last = take 256 (drop 485 image) in
     let x = append_bytes (take 96 image) (replicate 32 0) (take_bytes 96 image h) (replicate_bytes 32 0 (omega arith)) in
     let y = append_bytes lower first x (take_bytes 384 (drop 96 image) (drop_bytes 96 image h)) in
-    rw e (cycled_bytes_lem (image_bytes image) (append_bytes (lower ++ first) last y (take_bytes 256 (drop 485 image) (drop_bytes 485 image h))))
+    rw (← (loaded_as image m e).1) (cycled_bytes_lem (image_bytes image) (append_bytes (lower ++ first) last y (take_bytes 256 (drop 485 image) (drop_bytes 485 image h))))
 
 -- what is read is a byte
 class_byte : (c : Class) (reached : Bool) (x : ℕ) → x < 256 → read_class c reached x < 256

@@ -21,7 +21,8 @@ one_most : (b : Bool) → one_if b < 2
 one_most true = omega arith
 one_most false = omega arith
 
-flags_most : (k x high low : ℕ) → flags_of k x high low < 4
+-- the two flags of a channel fit its two bits
+pub flags_most : (k x high low : ℕ) → flags_of k x high low < 4
 flags_most k x high low =
     let a = one_most (ltb (order_of k high) (order_of k x)) in
     let b = one_most (ltb (order_of k x) (order_of k low)) in

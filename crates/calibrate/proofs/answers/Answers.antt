@@ -1,27 +1,14 @@
--- `answers`: the line that was read lies in the text, and has five bytes at least.
-use Rattle.std.proofs.Common.{drop, sym, ap, ◌∙◌, arith, length-drop}
-use Rattle.lines.proofs.Forms.{part_from}
-use Rattle.calibrate.specs.Lines.{line_of}
-use Rattle.calibrate.proofs.Reading.{line_taken}
+-- `answers`: a value that is given is a number, and a refusal one of 17 to 19.
+use Rattle.std.proofs.Common.{sym, ◌∙◌, arith}
+use Rattle.calibration.proofs.Checked.{calibrate_returns, refused_number}
+use Rattle.calibration.proofs.Never.{numbers_given}
 use Rattle.calibrate.proofs.answers.Goals as goal
 
-pub overflow_add-at : goal.overflow_add-at
-overflow_add-at g c =
-    let text = c.args.text.now in
-    let here = ap line_of (sym (part_from text c.loop-at.at)) ∙ sym c.read_line.ensures ∙ c.in-Formed.is in
-    let taken = rw (length-drop c.loop-at.at text) at (line_taken (drop c.loop-at.at text) _ _ here) in
-    omega (arith, taken)
+pub show-requires : goal.show-requires
+show-requires g c =
+    rw (sym c.calibrate.ensures ∙ c.in-Ok.is) at (numbers_given c.args.lower.now c.in-Some.line.raws (omega arith))
 
-pub loop-at-smaller : goal.loop-at-smaller
-loop-at-smaller g c =
-    let text = c.args.text.now in
-    let here = ap line_of (sym (part_from text c.loop-at.at)) ∙ sym c.read_line.ensures ∙ c.in-Formed.is in
-    let taken = rw (length-drop c.loop-at.at text) at (line_taken (drop c.loop-at.at text) _ _ here) in
-    omega (arith, taken)
-
-pub loop-at-preserved : goal.loop-at-preserved
-loop-at-preserved g c =
-    let text = c.args.text.now in
-    let here = ap line_of (sym (part_from text c.loop-at.at)) ∙ sym c.read_line.ensures ∙ c.in-Formed.is in
-    let taken = rw (length-drop c.loop-at.at text) at (line_taken (drop c.loop-at.at text) _ _ here) in
-    (omega (arith, taken), omega (arith, taken))
+pub refuse-requires : goal.refuse-requires
+refuse-requires g c =
+    refused_number c.args.lower.now _ _
+    (((calibrate_returns c.args.lower.now c.in-Some.line.raws).exactly _ _).0 (sym c.calibrate.ensures ∙ c.in-Err.is))

@@ -1,9 +1,9 @@
--- `answers`: each line has five bytes at least, so the lines end and their number fits.
-use Rattle.std.proofs.Common.{◌+◌, ◌-◌, ◌≤◌, length}
+-- `answers`: a line leaves less of the text, so the lines end and their number fits.
+use Rattle.std.proofs.Common.{◌+◌, ◌≤◌, length}
 use Rattle.calibrate.proofs.answers.Given as goal
 
-abbrev pub invariant-loop-at : goal.invariant-loop-at
-invariant-loop-at g l = (l.at ≤ length l.text) × (l.number ≤ l.at + 1)
+abbrev pub invariant-loop-rest : goal.invariant-loop-rest
+invariant-loop-rest g l = l.number + length l.rest ≤ length l.text + 1
 
-abbrev pub decreases-loop-at : goal.decreases-loop-at
-decreases-loop-at g l = length l.text - l.at
+abbrev pub decreases-loop-rest : goal.decreases-loop-rest
+decreases-loop-rest g l = length l.rest

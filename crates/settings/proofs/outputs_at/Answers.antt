@@ -13,8 +13,8 @@ returns c =
     let i = c.at_most_71-i in
     let at : (s a : ℕ) → a < 0x80 → place_of s (0x80 + a) ≡ 0x80 * s + a = λ s a h. let e = upper_place s (0x80 + a) (omega arith) in omega arith in
     rw (
-      c.output.ensures,
-      c.output-2.ensures,
+      c.output_at.ensures,
+      c.output_at-2.ensures,
       ← i.ensures,
       at 4 0x49 (omega arith),
       at 4 0x48 (omega arith),

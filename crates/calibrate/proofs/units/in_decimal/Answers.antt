@@ -18,7 +18,7 @@ pub returns-then-x-2 : goal.returns-then-x-2
 unfolding power_of of_bits neg
 returns-then-x-2 c =
     let t = c.truncating_f64_to_i64 in
-    rw (c.if-x.true, c.if-x-2.true, c.amount.ensures, to_z-of_z w64 t.result (sfits_of t.type_inv), t.ensures)
+    rw (c.if-x.true, c.if-x-2.true, to_z-of_z w64 t.result (sfits_of t.type_inv), t.ensures)
 
 pub returns-then-x : goal.returns-then-x
 unfolding power_of of_bits neg

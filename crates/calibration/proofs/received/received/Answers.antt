@@ -1,32 +1,11 @@
--- `received`: the five coefficients, all finite, and the raw number.
-use Rattle.std.proofs.Common.{arith}
-use Rattle.calibration.specs.Calibration.{received_of}
-use Rattle.calibration.proofs.Patterns.{each_finite}
+-- `received`: where a later coefficient is none, not all are finite.
+use Rattle.std.proofs.Common.{◌∙◌, refl, sym}
+use Rattle.calibration.specs.declared.received.TheConstants.{LATER}
+use Rattle.calibration.proofs.Patterns.{later_infinite, none_infinite}
 use Rattle.calibration.proofs.received.received.Goals as goal
 
-pub coefficient-requires : goal.coefficient-requires
-coefficient-requires c = (c.requires.0, (omega arith, (each_finite c.args.lent.now c.requires.1).fourth))
-
-pub coefficient-requires-2 : goal.coefficient-requires-2
-coefficient-requires-2 c = (c.requires.0, (omega arith, (each_finite c.args.lent.now c.requires.1).third))
-
-pub coefficient-requires-3 : goal.coefficient-requires-3
-coefficient-requires-3 c = (c.requires.0, (omega arith, (each_finite c.args.lent.now c.requires.1).second))
-
-pub coefficient-requires-4 : goal.coefficient-requires-4
-coefficient-requires-4 c = (c.requires.0, (omega arith, (each_finite c.args.lent.now c.requires.1).first))
-
-pub coefficient-requires-5 : goal.coefficient-requires-5
-coefficient-requires-5 c = (c.requires.0, (omega arith, (each_finite c.args.lent.now c.requires.1).constant))
-
-pub returns : goal.returns
-unfolding received_of
-returns c =
-    rw (
-      c.polynomial.ensures,
-      c.coefficient-5.ensures,
-      c.coefficient-4.ensures,
-      c.coefficient-3.ensures,
-      c.coefficient-2.ensures,
-      c.coefficient.ensures,
-    )
+pub returns-in_err-y-2 : goal.returns-in_err-y-2
+returns-in_err-y-2 c =
+    let none = none_infinite _ _ (sym c.coefficient-in-loop-i.ensures ∙ c.in_err-y-2.was) in
+    let fails = later_infinite c.args.lower.now LATER c.loop-i.i-index none refl c.loop-i-test.true in
+    rw fails c.from_residual-in_err-y-2.ensures

@@ -1,26 +1,22 @@
 -- `ds1852_lent_run`: the outcome selects the case of `run_call`.
-use Prim.Native.Nat.{ℕ}
-use mathlib.Core.Path.{◌≡◌, ap}
-use mathlib.Core.Option.{Option, get_or}
-use Rattle.host.specs.State.{device_of}
+use Rattle.std.proofs.Common.{rules}
+use Rattle.device.specs.State.{device_at}
+use Rattle.host.specs.State.{lend}
 use Rattle.host.proofs.After.{ran_is}
 use Rattle.host.proofs.exports.ds1852_lent_run.Goals as goal
 
-written : {x y : Option ℕ} (held : ℕ) → x ≡ y → get_or x held ≡ get_or y held
-written held e = ap (λ (z : Option ℕ). get_or z held) e
+pub returns-in-Ok : goal.returns-in-Ok
+returns-in-Ok c =
+    let x = c.args in
+    let ran = rw c.device_over-device.ensures.device at c.run_in-ran.ensures.run in
+    rw (c.outcome_number.ensures, c.internal_bytes.ensures)
+    (ran_is (lend x.bytes.now x.own.now x.internal.now) x.log.now x.answers.now x.cycles.now (device_at c.run_in-ran.new.device) c.run_in-ran.result
+    _ _ _ c.in-Ok.is ran (search rules) (rw c.device_over-device.ensures.device at c.run_in-ran.ensures.written))
 
-pub returns-in-Done : goal.returns-in-Done
-unfolding device_of
-returns-in-Done c =
-    let run = rw (c.internal_at-before.ensures, c.password2_in-password2.ensures) at c.run_in-ran.ensures in
-    let h = ran_is _ _ _ _ _ run.0 in
-    let o = c.in-Done.is in
-    (rw c.outcome_number.ensures h.0, (h.1.0, (rw c.internal_bytes.ensures (rw o at h.1.1.0), (run.1, written c.args.cycles.now (rw o at h.1.1.1)))))
-
-pub returns-in-Refused : goal.returns-in-Refused
-unfolding device_of
-returns-in-Refused c =
-    let run = rw (c.internal_at-before.ensures, c.password2_in-password2.ensures) at c.run_in-ran.ensures in
-    let h = ran_is _ _ _ _ _ run.0 in
-    let o = c.in-Refused.is in
-    (rw c.outcome_number-in-Refused.ensures h.0, (h.1.0, (rw o at h.1.1.0, (run.1, written c.args.cycles.now (rw o at h.1.1.1)))))
+pub returns-in-Err : goal.returns-in-Err
+returns-in-Err c =
+    let x = c.args in
+    let ran = rw c.device_over-device.ensures.device at c.run_in-ran.ensures.run in
+    rw c.outcome_number-in-Err.ensures
+    (ran_is (lend x.bytes.now x.own.now x.internal.now) x.log.now x.answers.now x.cycles.now (device_at c.run_in-ran.new.device) c.run_in-ran.result
+    _ _ _ c.in-Err.is ran (search rules) (rw c.device_over-device.ensures.device at c.run_in-ran.ensures.written))

@@ -6,6 +6,6 @@ use Rattle.host.proofs.values.ds1852_lent_calibrate.Goals as goal
 
 pub float_to_bits-received : goal.float_to_bits-received
 float_to_bits-received c =
-    let r = c.raws_in in
-    let g = rw (sym c.calibrate-calibrated.ensures ∙ c.in-Given.is) at (numbers_given c.args.lent.now r.result (omega (arith, r.type_inv))) in
+    let r = c.from in
+    let g = rw (sym c.calibrate.ensures ∙ c.in-Ok.is) at (numbers_given c.args.lent.now r.result (omega (arith, r.type_inv))) in
     rw g tt

@@ -16,10 +16,12 @@ pub returns : goal.returns
 unfolding read_at
 returns c =
     let a = c.args in
+    let place = rw c.of-rights.ensures.1.1 at c.place.ensures in
     rw (
-      ← read_line _ _ a.address c.on_line-at.result a.bytes.now (rw c.place.ensures at c.on_line-at.ensures.1),
-      ← c.level_in.ensures,
-      ← c.reach-reached.ensures,
+      ← read_line _ _ a.address c.on_line-at.result a.bytes.now (rw place at c.on_line-at.ensures.1),
+      ← c.of-rights.ensures.0,
+      ← c.of-rights.ensures.1.1,
+      ← c.reaches.ensures,
       ← c.class_of-2.ensures,
     )
     c.read_class-2.ensures

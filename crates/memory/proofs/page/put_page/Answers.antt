@@ -6,7 +6,7 @@ use Rattle.memory.proofs.page.put_page.Goals.{then-bit_of, else-bit_of}
 
 pub loop-i-init : goal.loop-i-init
 unfolding put_of
-loop-i-init c = (omega arith, refl)
+loop-i-init c = refl
 
 pub loop-i-preserved : goal.loop-i-preserved
 unfolding put_of
@@ -14,10 +14,8 @@ loop-i-preserved c =
     let i = c.loop-i.i in
     let e : i % 8 ≡ i = omega arith in
     let bit = rw e at c.bit_of.ensures in
-    let before = c.loop-i.invariant.1 in (
-      omega arith,
-      elim c.if-bit_of.branch [
-        | then-bit_of w ↦ rw (add-one, ← before, sym bit ∙ w.if-bit_of.true) w.bytes-is
-        | else-bit_of w ↦ rw (add-one, ← before, sym bit ∙ w.if-bit_of.false) w.bytes-is
-      ],
-    )
+    let before = c.loop-i.invariant in
+    elim c.if-bit_of.branch [
+      | then-bit_of w ↦ rw (add-one, ← before, sym bit ∙ w.if-bit_of.true) w.bytes-is
+      | else-bit_of w ↦ rw (add-one, ← before, sym bit ∙ w.if-bit_of.false) w.bytes-is
+    ]

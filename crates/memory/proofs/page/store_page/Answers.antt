@@ -9,11 +9,11 @@ pub put_page-requires : goal.put_page-requires
 put_page-requires c =
     let a = c.args in
     let b = a.bytes.now in
-    let stores = rw c.level_in.ensures at c.stores_by-stores.ensures in
+    let stores = rw (c.of-rights.ensures.0, c.of-rights.ensures.1.0, c.of-rights.ensures.1.1) at c.stores-stores.ensures in
     let on = page_fits (level_of b a.password2) (control_of b) (select_of b) a.pointer a.mask (λ z. c.if-stores-ne0.true (rw stores z)) in
-    let q = c.place.ensures in
+    let q = rw c.of-rights.ensures.1.1 at c.place.ensures in
     omega arith
 
 pub returns-else-stores-ne0 : goal.returns-else-stores-ne0
 unfolding put_of
-returns-else-stores-ne0 c = rw (← c.level_in.ensures, ← c.stores_by-stores.ensures, c.if-stores-ne0.false)
+returns-else-stores-ne0 c = rw (← c.of-rights.ensures.0, ← c.of-rights.ensures.1.0, ← c.of-rights.ensures.1.1, ← c.stores-stores.ensures, c.if-stores-ne0.false)

@@ -1,24 +1,22 @@
--- `raised_in`: after i turns the first i bytes are counted, each with at most eight.
-use mathlib.Core.Path.{◌≡◌, refl}
+-- `raised_in`: each byte adds at most eight.
+use mathlib.Core.Path.{refl}
+use Prim.Native.Nat.{◌<◌}
 use native.Mathlib.Numerals.{add-one}
 use native.Mathlib.Omega.{arith}
+use lib.ListN.{drop}
+use Rattle.std.proofs.Common.{rules}
+use Rattle.std.proofs.lemmas.List.{get_or-drop, get_or-take}
 use Rattle.readings.specs.Raised.{raised_from}
 use Rattle.readings.proofs.count.raised_in.Goals as goal
 
-pub overflow_add-count : goal.overflow_add-count
-overflow_add-count c = omega (arith, c.ones-count.ensures.1)
-
-pub loop-i-init : goal.loop-i-init
+pub loop-x-init : goal.loop-x-init
 unfolding raised_from
-loop-i-init c = (omega arith, (omega arith, refl))
+loop-x-init c = (omega arith, refl)
 
-pub loop-i-preserved : goal.loop-i-preserved
+pub loop-x-preserved : goal.loop-x-preserved
 unfolding raised_from
-loop-i-preserved c =
-    let l = c.loop-i in
-    (omega arith, (omega (arith, c.ones-count.ensures.1), rw (add-one, ← l.invariant.1.1, c.ones-count.ensures.0)))
-
-pub returns : goal.returns
-returns c =
-    let e : c.loop-i.i ≡ 8 = omega arith in
-    rw e at c.loop-i.invariant.1.1
+loop-x-preserved c =
+    let l = c.loop-x in
+    let b = c.args.bytes.now in
+    let i : l.x-index < 8 = search rules in
+    (omega (arith, c.ones-count.ensures.1), rw (add-one, ← l.invariant.1, c.ones-count.ensures.0, get_or-take 8 (drop 112 b) l.x-index 0 i, get_or-drop 112 b l.x-index 0))

@@ -1,33 +1,34 @@
 -- `sample`: the two tests select the case, and each result stands for its definition.
 use mathlib.Core.Path.{refl, sym}
 use native.Mathlib.Omega.{arith}
-use borrow.Author.Tests.{eq-eqb, ne_eqb}
 use Rattle.readings.specs.Readings.{sampled_of}
 use Rattle.readings.proofs.Raised.{after_same, after_from, stored_raised}
 use Rattle.readings.proofs.samples.sample.Goals as goal
 
-pub returns-then-control-eq1-2 : goal.returns-then-control-eq1-2
+pub returns-then-bit_of-2 : goal.returns-then-bit_of-2
 unfolding sampled_of
-returns-then-control-eq1-2 c =
+returns-then-bit_of-2 c =
     let stored = c.store_reading in
     let x = c.reading-x in
     let k = c.number-k in
     let a = c.args in
     let same = rw (← stored.ensures) at (stored_raised a.bytes.now k.result x.result.value k.ensures.1) in
-    rw (eq-eqb _ _ c.if-control-eq1.true, eq-eqb _ _ c.if-control-eq1-2.true, ← x.ensures.0, ← x.ensures.1, ← k.ensures.0)
+    rw (← c.bit_of.ensures, c.if-bit_of.true, ← c.bit_of-then-bit_of.ensures, c.if-bit_of-2.true, ← x.ensures.0, ← x.ensures.1, ← k.ensures.0)
     (stored.ensures, (c.taken-value.ensures, sym (after_same a.raised a.bytes.now stored.new.bytes (omega arith) same)))
 
-pub returns-then-control-eq1 : goal.returns-then-control-eq1
+pub returns-then-bit_of : goal.returns-then-bit_of
 unfolding sampled_of
-returns-then-control-eq1 c =
+returns-then-bit_of c =
     let stored = c.store_reading in
     let x = c.reading-x in
     let k = c.number-k in
     let a = c.args in
     let same = rw (← stored.ensures) at (stored_raised a.bytes.now k.result x.result.value k.ensures.1) in
     rw (
-      eq-eqb _ _ c.if-control-eq1.true,
-      ne_eqb _ _ c.if-control-eq1-2.false,
+      ← c.bit_of.ensures,
+      c.if-bit_of.true,
+      ← c.bit_of-then-bit_of.ensures,
+      c.if-bit_of-2.false,
       ← x.ensures.0,
       ← x.ensures.1,
       ← k.ensures.0,
@@ -40,5 +41,5 @@ pub returns : goal.returns
 unfolding sampled_of
 returns c =
     let a = c.args in
-    rw (ne_eqb _ _ c.if-control-eq1.false)
+    rw (← c.bit_of.ensures, c.if-bit_of.false)
     (refl, (refl, sym (after_same a.raised a.bytes.now a.bytes.now (omega arith) refl)))
