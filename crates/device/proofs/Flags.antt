@@ -11,7 +11,7 @@ use Rattle.memory.specs.Bytes.{with_bit, mask_of}
 use Rattle.memory.specs.Access.{place_of, level_of, class_of, writable_at}
 use Rattle.memory.specs.Page.{put_of}
 use Rattle.memory.specs.Power.{cycled_bytes}
-use Rattle.memory.specs.Image.{image_bytes, image_memory}
+use Rattle.memory.specs.Image.{image_bytes, image_memory, load_of}
 use Rattle.memory.specs.declared.Refusal.{Refusal}
 use Rattle.readings.specs.Readings.{flagged_of, sampled_of, fast_of}
 use Rattle.readings.specs.Raised.{ones_of, raised_from, raised_in, raised_after}
@@ -19,7 +19,7 @@ use Rattle.readings.proofs.Raised.{raised_le}
 use Rattle.letters.specs.Letters.{kind_of, decode_of}
 use Rattle.letters.specs.declared.Raw.{Raw}
 use Rattle.device.specs.Bus.{address_of, rest_of, started_of, listened_of, gathered_of, stopped_at}
-use Rattle.device.specs.Calls.{started_by, Accepted, apply_of}
+use Rattle.device.specs.Calls.{started_by, Accepted, start_of, apply_of}
 use Rattle.device.specs.Run.{after_of}
 use Rattle.device.specs.Told.{flags_up}
 use Rattle.device.specs.Secrecy.{Alike, Stranger, Reached, fresh}
@@ -28,7 +28,7 @@ use Rattle.device.proofs.SingleEvent.{refused_left}
 use Rattle.device.proofs.Runs.{reached_after}
 use Rattle.device.proofs.Secrecy.{secrecy}
 use Rattle.device.proofs.Sound.{reached_sound}
-use Rattle.device.proofs.Traffic.{E, C, A, F, write, write_control, master_image}
+use Rattle.device.proofs.Traffic.{E, C, A, F, write, write_control, master_image, start_from}
 
 -- of every reached device
 pub flags_true : (d : Device) → Reached d → flags_up d ≡ raised_in d.memory.bytes
@@ -60,7 +60,7 @@ flags_secret a b rs ra rb q s n = flags_alike _ _ ((secrecy a b rs ra rb q s).al
 
 -- level 2 after the start, all limits and trips 0
 abbrev device : Device
-device = started_by (master_image 0xA2)
+device = start_from (master_image 0xA2)
 
 -- E8h bit 5 set beside bit 2, and eight 1 bits written to 76h and 77h
 abbrev page : List Raw
@@ -81,5 +81,5 @@ told =
     ∷ []
 
 pub flags_worked : map (λ (rs : List Raw). flags_up (after_of device rs)) told ≡ 1 ∷ 3 ∷ 3 ∷ 1 ∷ 4 ∷ 3 ∷ 11 ∷ 1 ∷ []
-unfolding ones_of raised_from raised_after flagged_of sampled_of fast_of place_of level_of class_of writable_at with_bit mask_of put_of cycled_bytes image_bytes image_memory address_of rest_of started_of listened_of gathered_of stopped_at kind_of decode_of apply_of after_of
+unfolding ones_of raised_from raised_after flagged_of sampled_of fast_of place_of level_of class_of writable_at with_bit mask_of put_of cycled_bytes image_bytes image_memory load_of address_of rest_of started_of listened_of gathered_of stopped_at kind_of decode_of start_of apply_of after_of
 flags_worked = refl
