@@ -27,4 +27,4 @@ returns c =
     after_field a.raised s.byte s.width s.low a.f a.bytes.now s.flags.0 s.flags.1 (omega arith) s.narrow.0 s.narrow.1 s.fits
     (c.fits-bytes s.byte) c.requires in
     rw (field_put s.low s.width x a.f c.of-old.result s.fits c.requires c.of-old.ensures.0)
-    (refl, c.go_on.ensures ∙ rw (c.ones_of_two-more.ensures, c.ones_of_two-cleared.ensures, c.of-old.ensures.0) on)
+    (refl, c.go_on.ensures ∙ rw (← c.ones_of_two-more.ensures, ← c.of-old.ensures.0, ← c.ones_of_two-cleared.ensures) at on)
